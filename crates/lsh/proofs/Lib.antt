@@ -1,0 +1,11 @@
+pub mod Tests
+pub mod Tabulate
+pub mod Word
+pub mod Lane
+pub mod Figures
+pub mod Permutation
+pub mod Step
+pub mod Block
+pub mod Blocks
+pub mod Bench
+pub mod OpeningChains

@@ -1,0 +1,42 @@
+-- Tests that antt computes over a whole table, and what each says of every entry.
+-- Assumes nothing.
+use mathlib.Core.Path.{_≡_, sym, subst}
+use mathlib.Core.Bool.{Bool, true, false, _&&_}
+use mathlib.Core.List.{List, [], _∷_}
+use Prim.Native.Nat.{ℕ, zero, suc, _≤_, _<_, zero-le}
+use native.Mathlib.Nat.{not-suc-le-zero}
+use native.Mathlib.Decide.{ℕ-discrete}
+use native.Mathlib.Omega.{arith}
+use lib.Dec.{T, leb, leb→le}
+use Rattle.lsh.specs.Tabulate.{at}
+
+pub and-left : (a b : Bool) → T (a && b) → T a
+and-left true b t = tt
+and-left false b t = t
+
+pub and-right : (a b : Bool) → T (a && b) → T b
+and-right true b t = t
+and-right false b t = absurd t
+
+-- each number below n passes
+abbrev pub allBelow : ℕ → (ℕ → Bool) → Bool
+allBelow zero p = true
+allBelow (suc n) p = p n && allBelow n p
+
+pub at-allBelow : (n : ℕ) (p : ℕ → Bool) → T (allBelow n p) → (k : ℕ) → k < n → T (p k)
+at-allBelow zero p t k h = absurd (not-suc-le-zero h)
+at-allBelow (suc n) p t k h = go (at-allBelow n p (and-right (p n) (allBelow n p) t) k) (ℕ-discrete k n)
+  where
+    go : (k < n → T (p k)) → Dec (k ≡ n) → T (p k)
+    go rest (yes e) = subst (λ (m : ℕ). T (p m)) (sym e) (and-left (p n) (allBelow n p) t)
+    go rest (no ne) = rest (omega arith)
+
+-- each entry is at most m
+abbrev pub upTo : ℕ → List ℕ → Bool
+upTo m [] = true
+upTo m (x ∷ xs) = leb x m && upTo m xs
+
+pub at-upTo : (m : ℕ) (xs : List ℕ) → T (upTo m xs) → (k : ℕ) → at xs k ≤ m
+at-upTo m [] t k = zero-le
+at-upTo m (x ∷ xs) t zero = leb→le x m (and-left (leb x m) (upTo m xs) t)
+at-upTo m (x ∷ xs) t (suc k) = at-upTo m xs (and-right (leb x m) (upTo m xs) t) k

@@ -1,0 +1,1 @@
+// The definition of LSH (specs/) and its laws (proofs/). There is no code here.
