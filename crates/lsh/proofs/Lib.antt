@@ -7,5 +7,6 @@ pub mod Permutation
 pub mod Step
 pub mod Block
 pub mod Blocks
+pub mod Bytes
 pub mod Bench
 pub mod OpeningChains
