@@ -8,5 +8,6 @@ pub mod Step
 pub mod Block
 pub mod Blocks
 pub mod Bytes
+pub mod Padding
 pub mod Bench
 pub mod OpeningChains

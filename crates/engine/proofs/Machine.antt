@@ -1,0 +1,80 @@
+-- What the machine's operators give on words of w bits, in the definitions' terms.
+-- Assumes nothing.
+use mathlib.Core.Path.{_≡_, refl, sym, ap, ap₂, _∙_, subst}
+use Prim.Native.Nat.{ℕ, zero, suc, _+_, _-_, _*_, _/_, _%_, _^_, _≤_, _<_}
+use native.Mathlib.Nat.{mod-lt, add-mod, mod-eq-of-lt, mul-mod-left, add-zero, sub-zero, zero-add, zero-mul, mod-one, div-one, div-eq-of-lt}
+use native.Mathlib.Omega.{arith}
+use lib.Pow.{mod-pow-add, shl-shr, shr-lt}
+use lib.Arith.{lt-one}
+use lib.Bits.{bitOr, bitXor, or-shifted, or-shifted-r, xor-step, differ}
+use Rattle.lsh.specs.Word.{add, subtract, turn, rotateLeft, rotateRight, xor}
+use Rattle.lsh.proofs.Word.{sub-add, low-first, high-first}
+
+-- rotations: `x << k | x >> j`, and the other way round, in a word of j + k bits
+up : (j k x : ℕ) → (x * 2 ^ k) % 2 ^ (j + k) ≡ (x % 2 ^ j) * 2 ^ k
+up j k x =
+    mod-pow-add (x * 2 ^ k) j k
+    ∙ ap₂ (λ (p q : ℕ). (p % 2 ^ j) * 2 ^ k + q) (shl-shr x k) (mul-mod-left x (2 ^ k))
+    ∙ add-zero ((x % 2 ^ j) * 2 ^ k)
+
+turn-or : (j k x : ℕ) → x < 2 ^ (k + j) → bitOr ((x * 2 ^ k) % 2 ^ (j + k)) (x / 2 ^ j) ≡ turn j k x
+unfolding turn
+turn-or j k x h = rw (up j k x) (or-shifted (x % 2 ^ j) k (x / 2 ^ j) (shr-lt k j h))
+
+turn-or-r : (j k x : ℕ) → x < 2 ^ (k + j) → bitOr (x / 2 ^ j) ((x * 2 ^ k) % 2 ^ (j + k)) ≡ turn j k x
+unfolding turn
+turn-or-r j k x h = rw (up j k x) (or-shifted-r (x % 2 ^ j) k (x / 2 ^ j) (shr-lt k j h))
+
+module _ (w k x : ℕ) (hk : k ≤ w) (hx : x < 2 ^ w) where
+  pub left-is : bitOr ((x * 2 ^ k) % 2 ^ w) (x / 2 ^ (w - k)) ≡ rotateLeft w k x
+  unfolding rotateLeft
+  left-is =
+      let e : w - k + k ≡ w = omega arith in
+      subst (λ (n : ℕ). bitOr ((x * 2 ^ k) % 2 ^ n) (x / 2 ^ (w - k)) ≡ turn (w - k) k x) e (turn-or (w - k) k x (low-first w k x hk hx))
+
+  pub right-is : bitOr (x / 2 ^ k) ((x * 2 ^ (w - k)) % 2 ^ w) ≡ rotateRight w k x
+  unfolding rotateRight
+  right-is =
+      let e : k + (w - k) ≡ w = omega arith in
+      subst (λ (n : ℕ). bitOr (x / 2 ^ k) ((x * 2 ^ (w - k)) % 2 ^ n) ≡ turn k (w - k) x) e (turn-or-r k (w - k) x (high-first w k x hk hx))
+
+-- a rotation by 0 gives the word itself
+pub left-none : (w k x : ℕ) → k ≡ 0 → x < 2 ^ w → x ≡ rotateLeft w k x
+unfolding rotateLeft turn
+left-none w k x e h =
+    rw (e, sub-zero w)
+    (sym (ap₂ (λ (p q : ℕ). p * 1 + q) (mod-eq-of-lt h) (div-eq-of-lt h) ∙ omega arith))
+
+pub right-none : (w k x : ℕ) → k ≡ 0 → x < 2 ^ w → x ≡ rotateRight w k x
+unfolding rotateRight turn
+right-none w k x e h =
+    rw e
+    (sym (ap₂ (λ (p q : ℕ). p * 2 ^ (w - 0) + q) (mod-one x) (div-one x) ∙ ap (λ (n : ℕ). n + x) (zero-mul (2 ^ (w - 0))) ∙ zero-add x))
+
+-- differences: the number to which y is added to give x
+pub sub-is : (w r x y : ℕ) → r < 2 ^ w → y < 2 ^ w → (r + y) % 2 ^ w ≡ x → r ≡ subtract w x y
+unfolding add
+sub-is w r x y hr hy e = sym (sub-add w r y hr hy) ∙ ap (λ (n : ℕ). subtract w n y) e
+
+-- exclusive or
+
+two-pos : zero < 2
+two-pos = omega arith
+
+digit : (a b : ℕ) → a < 2 → b < 2 → differ a b ≡ (a + b) % 2
+digit zero zero ha hb = refl
+digit zero (suc zero) ha hb = refl
+digit (suc zero) zero ha hb = refl
+digit (suc zero) (suc zero) ha hb = refl
+digit zero (suc (suc b)) ha hb = absurd (omega arith)
+digit (suc zero) (suc (suc b)) ha hb = absurd (omega arith)
+digit (suc (suc a)) b ha hb = absurd (omega arith)
+
+pub xor-is : (w x y : ℕ) → x < 2 ^ w → y < 2 ^ w → bitXor x y ≡ xor w x y
+unfolding xor
+xor-is zero x y hx hy = ap₂ bitXor (lt-one hx) (lt-one hy)
+xor-is (suc w) x y hx hy =
+    xor-step x y
+    ∙ ap₂ (λ (p q : ℕ). p * 2 + q)
+    (xor-is w (x / 2) (y / 2) (omega arith) (omega arith))
+    (digit (x % 2) (y % 2) (mod-lt x two-pos) (mod-lt y two-pos) ∙ sym (add-mod x y 2))

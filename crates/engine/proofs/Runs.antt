@@ -1,0 +1,77 @@
+-- The loops over the whole blocks of a byte string, forward in order and backward from the last.
+-- Assumes nothing.
+use mathlib.Core.Path.{_≡_, refl, sym, ap, ap₂, _∙_, subst}
+use mathlib.Core.List.{List, [], _∷_, _++_}
+use Prim.Native.Nat.{ℕ, zero, suc, _+_, _-_, _*_, _/_, _≤_, _<_, zero-le}
+use native.Mathlib.Nat.{le-antisymm, zero-add}
+use native.Mathlib.Numerals.{add-one}
+use native.Mathlib.Omega.{arith}
+use lib.ListN.{length, take, drop}
+use Rattle.lsh.specs.WordSize.{WordSize, blockBytes}
+use Rattle.lsh.specs.Bytes.{wordsOf}
+use Rattle.lsh.specs.Block.{forward, backward, forwards, backwards}
+use Rattle.lsh.specs.Padding.{firstBlocks, blocksOf}
+use Rattle.lsh.proofs.Blocks.{forwards-append, backwards-append}
+use Rattle.lsh.proofs.Padding.{blockAt, firstBlocks-more}
+
+-- count blocks of n are run
+pub record RunForward (z : WordSize) (n : ℕ) (s t c : List ℕ) (count : ℕ) : Type 0 where
+  pub upTo : count ≤ n
+  pub chain : c ≡ forwards z (firstBlocks z count s) t
+
+pub run-forward-none : (z : WordSize) (n : ℕ) (s t : List ℕ) → RunForward z n s t t 0
+unfolding firstBlocks forwards
+run-forward-none z n s t = record { upTo = zero-le; chain = refl }
+
+pub run-forward-more : {z : WordSize} {n : ℕ} {s t c : List ℕ} {count : ℕ} (u : List ℕ) → RunForward z n s t c count → count < n
+    → u ≡ forward z (blockAt z s count) c → RunForward z n s t u (count + 1)
+unfolding forwards
+run-forward-more {z} {n} {s} {t} {c} {count} u h lt e =
+    record {
+      upTo = omega arith;
+      chain =
+          e ∙ ap (forward z (blockAt z s count)) (h .chain)
+          ∙ sym (ap (λ (k : ℕ). forwards z (firstBlocks z k s) t) (add-one count)
+          ∙ ap (λ (bs : List (List ℕ)). forwards z bs t) (firstBlocks-more z count s)
+          ∙ forwards-append z (firstBlocks z count s) (blockAt z s count ∷ []) t);
+    }
+
+pub run-forward-all : {z : WordSize} {s t c : List ℕ} {count : ℕ} → RunForward z (length s / blockBytes z) s t c count
+    → length s / blockBytes z ≤ count → (c ≡ forwards z (blocksOf z s) t) × (count ≡ length s / blockBytes z)
+unfolding blocksOf
+run-forward-all {z} {s} {t} {c} {count} h le =
+    let all : count ≡ length s / blockBytes z = le-antisymm (h .upTo) le in
+    (h .chain ∙ ap (λ (k : ℕ). forwards z (firstBlocks z k s) t) all, all)
+
+-- count blocks of n are run from the last, and left are left
+pub record RunBackward (z : WordSize) (n : ℕ) (s t c : List ℕ) (count left : ℕ) : Type 0 where
+  pub both : count + left ≡ n
+  pub chain : backwards z (firstBlocks z left s) c ≡ backwards z (firstBlocks z n s) t
+
+pub run-backward-none : (z : WordSize) (n : ℕ) (s t : List ℕ) → RunBackward z n s t t 0 n
+run-backward-none z n s t = record { both = zero-add n; chain = refl }
+
+pub run-backward-more : {z : WordSize} {n : ℕ} {s t c : List ℕ} {count left : ℕ} (u : List ℕ) → RunBackward z n s t c count left → 0 < left
+    → u ≡ backward z (blockAt z s (left - 1)) c → RunBackward z n s t u (count + 1) (left - 1)
+unfolding backwards
+run-backward-more {z} {n} {s} {t} {c} {count} {left} u h lt e =
+    let k : ℕ = left - 1 in
+    let before : left ≡ suc k = omega arith in
+    let sum : count + left ≡ n = h .both in
+    record {
+      both = omega arith;
+      chain =
+          ap (backwards z (firstBlocks z k s)) e
+          ∙ sym (ap (λ (i : ℕ). backwards z (firstBlocks z i s) c) before
+          ∙ ap (λ (bs : List (List ℕ)). backwards z bs c) (firstBlocks-more z k s)
+          ∙ backwards-append z (firstBlocks z k s) (blockAt z s k ∷ []) c)
+          ∙ h .chain;
+    }
+
+pub run-backward-all : {z : WordSize} {s t c : List ℕ} {count left : ℕ} → RunBackward z (length s / blockBytes z) s t c count left → left ≤ 0
+    → (c ≡ backwards z (blocksOf z s) t) × (count ≡ length s / blockBytes z)
+unfolding blocksOf firstBlocks backwards
+run-backward-all {z} {s} {t} {c} {count} {left} h le =
+    let none : left ≡ 0 = omega arith in
+    let sum : count + left ≡ length s / blockBytes z = h .both in
+    (subst (λ (k : ℕ). backwards z (firstBlocks z k s) c ≡ backwards z (firstBlocks z (length s / blockBytes z) s) t) none (h .chain), omega arith)

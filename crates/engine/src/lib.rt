@@ -1,0 +1,2 @@
+// What the code of both word sizes has in common: the layout of the sub-messages in memory (specs/), and the laws of its loops
+// (proofs/). There is no code here.

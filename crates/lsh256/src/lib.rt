@@ -1,0 +1,549 @@
+// LSH-256: whole blocks of 128 bytes run forward and backward on a chain of 16 words of 32 bits.
+ghost use mathlib.Core.Path.{_≡_};
+ghost use Prim.Native.Nat.{_+_, _*_, _/_, _<_, _≤_};
+ghost use lib.ListN.{length};
+ghost use lib.Seq.{sets};
+ghost use Rattle.lsh.specs.WordSize.{lsh256};
+ghost use Rattle.lsh.specs.StepConstants.{constant, constants};
+ghost use Rattle.lsh.specs.Bytes.{wordsOf, bytesOf};
+ghost use Rattle.lsh.specs.Lane.{lane, mixLane, unmixLane};
+ghost use Rattle.lsh.specs.Step.{addMessage, mix, unmix, permute, unpermute, step, unstep};
+ghost use Rattle.lsh.specs.Block.{forward, backward, forwards, backwards};
+ghost use Rattle.lsh.specs.Padding.{blocksOf};
+ghost use Rattle.engine.specs.Rows.{row, expandRow, expandRows};
+
+// The figures of the word size.
+pub struct Lsh256 {}
+
+impl Lsh256 {
+    // Bytes of a block and of a chain.
+    pub const BLOCK: usize = 128;
+
+    pub const CHAIN: usize = 64;
+
+    // Ns (5).
+    pub const STEPS: usize = 26;
+
+    // Words of the table of step constants, and of the sub-messages M_0 to M_27.
+    const CONSTANTS: usize = 8 * Lsh256::STEPS;
+
+    const EXPANDED: usize = 16 * (Lsh256::STEPS + 2);
+}
+
+// A chain after whole blocks, and how many there were.
+pub struct Run {
+    pub chain: [u32; 16],
+    pub count: usize,
+}
+
+// The words X and Y of a lane.
+struct Pair {
+    x: u32,
+    y: u32,
+}
+
+// SC_j[l] stands at 8j + l.
+const SC: [u32; Lsh256::CONSTANTS] = [
+    0x917caf90,
+    0x6c1b10a2,
+    0x6f352943,
+    0xcf778243,
+    0x2ceb7472,
+    0x29e96ff2,
+    0x8a9ba428,
+    0x2eeb2642,
+    0x0e2c4021,
+    0x872bb30e,
+    0xa45e6cb2,
+    0x46f9c612,
+    0x185fe69e,
+    0x1359621b,
+    0x263fccb2,
+    0x1a116870,
+    0x3a6c612f,
+    0xb2dec195,
+    0x02cb1f56,
+    0x40bfd858,
+    0x784684b6,
+    0x6cbb7d2e,
+    0x660c7ed8,
+    0x2b79d88a,
+    0xa6cd9069,
+    0x91a05747,
+    0xcdea7558,
+    0x00983098,
+    0xbecb3b2e,
+    0x2838ab9a,
+    0x728b573e,
+    0xa55262b5,
+    0x745dfa0f,
+    0x31f79ed8,
+    0xb85fce25,
+    0x98c8c898,
+    0x8a0669ec,
+    0x60e445c2,
+    0xfde295b0,
+    0xf7b5185a,
+    0xd2580983,
+    0x29967709,
+    0x182df3dd,
+    0x61916130,
+    0x90705676,
+    0x452a0822,
+    0xe07846ad,
+    0xaccd7351,
+    0x2a618d55,
+    0xc00d8032,
+    0x4621d0f5,
+    0xf2f29191,
+    0x00c6cd06,
+    0x6f322a67,
+    0x58bef48d,
+    0x7a40c4fd,
+    0x8beee27f,
+    0xcd8db2f2,
+    0x67f2c63b,
+    0xe5842383,
+    0xc793d306,
+    0xa15c91d6,
+    0x17b381e5,
+    0xbb05c277,
+    0x7ad1620a,
+    0x5b40a5bf,
+    0x5ab901a2,
+    0x69a7a768,
+    0x5b66d9cd,
+    0xfdee6877,
+    0xcb3566fc,
+    0xc0c83a32,
+    0x4c336c84,
+    0x9be6651a,
+    0x13baa3fc,
+    0x114f0fd1,
+    0xc240a728,
+    0xec56e074,
+    0x009c63c7,
+    0x89026cf2,
+    0x7f9ff0d0,
+    0x824b7fb5,
+    0xce5ea00f,
+    0x605ee0e2,
+    0x02e7cfea,
+    0x43375560,
+    0x9d002ac7,
+    0x8b6f5f7b,
+    0x1f90c14f,
+    0xcdcb3537,
+    0x2cfeafdd,
+    0xbf3fc342,
+    0xeab7b9ec,
+    0x7a8cb5a3,
+    0x9d2af264,
+    0xfacedb06,
+    0xb052106e,
+    0x99006d04,
+    0x2bae8d09,
+    0xff030601,
+    0xa271a6d6,
+    0x0742591d,
+    0xc81d5701,
+    0xc9a9e200,
+    0x02627f1e,
+    0x996d719d,
+    0xda3b9634,
+    0x02090800,
+    0x14187d78,
+    0x499b7624,
+    0xe57458c9,
+    0x738be2c9,
+    0x64e19d20,
+    0x06df0f36,
+    0x15d1cb0e,
+    0x0b110802,
+    0x2c95f58c,
+    0xe5119a6d,
+    0x59cd22ae,
+    0xff6eac3c,
+    0x467ebd84,
+    0xe5ee453c,
+    0xe79cd923,
+    0x1c190a0d,
+    0xc28b81b8,
+    0xf6ac0852,
+    0x26efd107,
+    0x6e1ae93b,
+    0xc53c41ca,
+    0xd4338221,
+    0x8475fd0a,
+    0x35231729,
+    0x4e0d3a7a,
+    0xa2b45b48,
+    0x16c0d82d,
+    0x890424a9,
+    0x017e0c8f,
+    0x07b5a3f5,
+    0xfa73078e,
+    0x583a405e,
+    0x5b47b4c8,
+    0x570fa3ea,
+    0xd7990543,
+    0x8d28ce32,
+    0x7f8a9b90,
+    0xbd5998fc,
+    0x6d7a9688,
+    0x927a9eb6,
+    0xa2fc7d23,
+    0x66b38e41,
+    0x709e491a,
+    0xb5f700bf,
+    0x0a262c0f,
+    0x16f295b9,
+    0xe8111ef5,
+    0x0d195548,
+    0x9f79a0c5,
+    0x1a41cfa7,
+    0x0ee7638a,
+    0xacf7c074,
+    0x30523b19,
+    0x09884ecf,
+    0xf93014dd,
+    0x266e9d55,
+    0x191a6664,
+    0x5c1176c1,
+    0xf64aed98,
+    0xa4b83520,
+    0x828d5449,
+    0x91d71dd8,
+    0x2944f2d6,
+    0x950bf27b,
+    0x3380ca7d,
+    0x6d88381d,
+    0x4138868e,
+    0x5ced55c4,
+    0x0fe19dcb,
+    0x68f4f669,
+    0x6e37c8ff,
+    0xa0fe6e10,
+    0xb44b47b0,
+    0xf5c0558a,
+    0x79bf14cf,
+    0x4a431a20,
+    0xf17f68da,
+    0x5deb5fd1,
+    0xa600c86d,
+    0x9f6c7eb0,
+    0xff92f864,
+    0xb615e07f,
+    0x38d3e448,
+    0x8d5d3a6a,
+    0x70e843cb,
+    0x494b312e,
+    0xa6c93613,
+    0x0beb2f4f,
+    0x928b5d63,
+    0xcbf66035,
+    0x0cb82c80,
+    0xea97a4f7,
+    0x592c0f3b,
+    0x947c5f77,
+    0x6fff49b9,
+    0xf71a7e5a,
+    0x1de8c0f5,
+    0xc2569600,
+    0xc4e4ac8c,
+    0x823c9ce1,
+];
+
+const SIGMA: [usize; 16] = [6, 4, 5, 7, 12, 15, 14, 13, 2, 0, 1, 3, 8, 11, 10, 9];
+
+const TAU: [usize; 16] = [3, 2, 0, 1, 7, 4, 5, 6, 11, 10, 8, 9, 15, 12, 13, 14];
+
+const GAMMA: [u32; 8] = [0, 8, 16, 24, 24, 16, 8, 0];
+
+// For the even steps, and for the odd.
+const ALPHA: [u32; 2] = [29, 5];
+
+const BETA: [u32; 2] = [1, 17];
+
+// The table, whose rule is (14). A constant array is written out wherever it is named, so a run of blocks gets it once and lends it on.
+fn step_constants() -> [u32; Lsh256::CONSTANTS]
+    ensures { λ r. ⌜ r ≡ constants lsh256 ⌝ }
+{
+    SC
+}
+
+fn step_constant(sc: &[u32; Lsh256::CONSTANTS], j: usize, l: usize) -> u32
+    requires { ⌜ (now sc ≡ constants lsh256) × (j < 26) × (l < 8) ⌝ }
+    ensures { λ r. ⌜ r ≡ constant lsh256 j l ⌝ }
+{
+    sc[j * 8 + l]
+}
+
+// (22)
+fn mix_lane(a: u32, b: u32, g: u32, c: u32, x: u32, y: u32) -> Pair
+    requires { ⌜ (a < 32) × (b < 32) × (g < 32) ⌝ }
+    ensures { λ r. ⌜ lane (r .x) (r .y) ≡ mixLane 32 a b g c (lane x y) ⌝ }
+{
+    let x1 = word32::exclusive_or(word32::rotate_left(word32::add(x, y), a), c);
+    let y1 = word32::rotate_left(word32::add(y, x1), b);
+    Pair {
+        x: word32::add(x1, y1),
+        y: word32::rotate_left(y1, g),
+    }
+}
+
+fn unmix_lane(a: u32, b: u32, g: u32, c: u32, x: u32, y: u32) -> Pair
+    requires { ⌜ (a < 32) × (b < 32) × (g < 32) ⌝ }
+    ensures { λ r. ⌜ lane (r .x) (r .y) ≡ unmixLane 32 a b g c (lane x y) ⌝ }
+{
+    let y1 = word32::rotate_right(y, g);
+    let x1 = word32::subtract(x, y1);
+    let y0 = word32::subtract(word32::rotate_right(y1, b), x1);
+    Pair {
+        x: word32::subtract(word32::rotate_right(word32::exclusive_or(x1, c), a), y0),
+        y: y0,
+    }
+}
+
+// (9)
+fn add_message(t: [u32; 16], m: [u32; 16]) -> [u32; 16]
+    ensures { λ r. ⌜ r ≡ addMessage lsh256 t m ⌝ }
+{
+    let mut r = [0u32; 16];
+    for l in 0..16 {
+        r[l] = word32::exclusive_or(t[l], m[l]);
+    }
+    r
+}
+
+// (10)
+fn mix(sc: &[u32; Lsh256::CONSTANTS], j: usize, t: [u32; 16]) -> [u32; 16]
+    requires { ⌜ (now sc ≡ constants lsh256) × (j < 26) ⌝ }
+    ensures { λ r. ⌜ r ≡ mix lsh256 j t ⌝ }
+{
+    let a = ALPHA[j % 2];
+    let b = BETA[j % 2];
+    let gamma = GAMMA;
+    let mut r = [0u32; 16];
+    for l in 0..8 {
+        let p = mix_lane(a, b, gamma[l], step_constant(sc, j, l), t[l], t[l + 8]);
+        r[l] = p.x;
+        r[l + 8] = p.y;
+    }
+    r
+}
+
+fn unmix(sc: &[u32; Lsh256::CONSTANTS], j: usize, t: [u32; 16]) -> [u32; 16]
+    requires { ⌜ (now sc ≡ constants lsh256) × (j < 26) ⌝ }
+    ensures { λ r. ⌜ r ≡ unmix lsh256 j t ⌝ }
+{
+    let a = ALPHA[j % 2];
+    let b = BETA[j % 2];
+    let gamma = GAMMA;
+    let mut r = [0u32; 16];
+    for l in 0..8 {
+        let p = unmix_lane(a, b, gamma[l], step_constant(sc, j, l), t[l], t[l + 8]);
+        r[l] = p.x;
+        r[l + 8] = p.y;
+    }
+    r
+}
+
+// (15)
+fn permute(t: [u32; 16]) -> [u32; 16]
+    ensures { λ r. ⌜ r ≡ permute t ⌝ }
+{
+    let sigma = SIGMA;
+    let mut r = [0u32; 16];
+    for l in 0..16 {
+        r[l] = t[sigma[l]];
+    }
+    r
+}
+
+fn unpermute(t: [u32; 16]) -> [u32; 16]
+    ensures { λ r. ⌜ r ≡ unpermute t ⌝ }
+{
+    let sigma = SIGMA;
+    let mut r = [0u32; 16];
+    for l in 0..16 {
+        r[sigma[l]] = t[l];
+    }
+    r
+}
+
+// (6)
+fn step(sc: &[u32; Lsh256::CONSTANTS], j: usize, m: [u32; 16], t: [u32; 16]) -> [u32; 16]
+    requires { ⌜ (now sc ≡ constants lsh256) × (j < 26) ⌝ }
+    ensures { λ r. ⌜ r ≡ step lsh256 j m t ⌝ }
+{
+    permute(mix(sc, j, add_message(t, m)))
+}
+
+fn unstep(sc: &[u32; Lsh256::CONSTANTS], j: usize, m: [u32; 16], t: [u32; 16]) -> [u32; 16]
+    requires { ⌜ (now sc ≡ constants lsh256) × (j < 26) ⌝ }
+    ensures { λ r. ⌜ r ≡ unstep lsh256 j m t ⌝ }
+{
+    add_message(unmix(sc, j, unpermute(t)), m)
+}
+
+// M_0 and M_1 (7): the words of a block.
+fn load_block(m: &mut [u32; Lsh256::EXPANDED], s: &[u8])
+    requires { ⌜ length (now s) ≡ 128 ⌝ }
+    ensures { λ _. ⌜ now (m .exit) ≡ sets (now (m .entry)) 0 (wordsOf lsh256 32 (now (s .entry))) ⌝ }
+{
+    for l in 0..32 {
+        m[l] = word32::load(s, l * 4);
+    }
+}
+
+// M_(j+2) (8)
+fn expand(m: &mut [u32; Lsh256::EXPANDED], j: usize)
+    requires { ⌜ j < 26 ⌝ }
+    ensures { λ _. ⌜ now (m .exit) ≡ expandRow lsh256 (now (m .entry)) j ⌝ }
+{
+    let tau = TAU;
+    let a = j * 16;
+    for l in 0..16 {
+        m[a + 32 + l] = word32::add(m[a + 16 + l], m[a + tau[l]]);
+    }
+}
+
+// M_j
+fn sub_message(m: &[u32; Lsh256::EXPANDED], j: usize) -> [u32; 16]
+    requires { ⌜ j < 28 ⌝ }
+    ensures { λ r. ⌜ r ≡ row (now m) j ⌝ }
+{
+    let a = j * 16;
+    let mut r = [0u32; 16];
+    for l in 0..16 {
+        r[l] = m[a + l];
+    }
+    r
+}
+
+// The steps j and j + 1: with an even j the amounts of both are constants to the compiler.
+fn two_steps(sc: &[u32; Lsh256::CONSTANTS], m: &[u32; Lsh256::EXPANDED], j: usize, t: [u32; 16]) -> [u32; 16]
+    requires { ⌜ (now sc ≡ constants lsh256) × (j + 1 < 26) ⌝ }
+    ensures { λ r. ⌜ r ≡ step lsh256 (j + 1) (row (now m) (j + 1)) (step lsh256 j (row (now m) j) t) ⌝ }
+{
+    let u = step(sc, j, sub_message(m, j), t);
+    step(sc, j + 1, sub_message(m, j + 1), u)
+}
+
+fn two_unsteps(sc: &[u32; Lsh256::CONSTANTS], m: &[u32; Lsh256::EXPANDED], j: usize, t: [u32; 16]) -> [u32; 16]
+    requires { ⌜ (now sc ≡ constants lsh256) × (j + 1 < 26) ⌝ }
+    ensures { λ r. ⌜ r ≡ unstep lsh256 j (row (now m) j) (unstep lsh256 (j + 1) (row (now m) (j + 1)) t) ⌝ }
+{
+    let u = unstep(sc, j + 1, sub_message(m, j + 1), t);
+    unstep(sc, j, sub_message(m, j), u)
+}
+
+fn expand_two(m: &mut [u32; Lsh256::EXPANDED], j: usize)
+    requires { ⌜ j + 1 < 26 ⌝ }
+    ensures { λ _. ⌜ now (m .exit) ≡ expandRow lsh256 (expandRow lsh256 (now (m .entry)) j) (j + 1) ⌝ }
+{
+    expand(m, j);
+    expand(m, j + 1);
+}
+
+// M_2 to M_26.
+fn expand_all(m: &mut [u32; Lsh256::EXPANDED])
+    ensures { λ _. ⌜ now (m .exit) ≡ expandRows lsh256 (now (m .entry)) 25 ⌝ }
+{
+    for j in 0..Lsh256::STEPS - 1 {
+        expand(m, j);
+    }
+}
+
+// The block s, on the chain t. m is room for the sub-messages: each is worked out two steps before it is used.
+fn forward_block(sc: &[u32; Lsh256::CONSTANTS], m: &mut [u32; Lsh256::EXPANDED], s: &[u8], t: [u32; 16]) -> [u32; 16]
+    requires { ⌜ (now sc ≡ constants lsh256) × (length (now s) ≡ 128) ⌝ }
+    ensures { λ r. ⌜ r ≡ forward lsh256 (wordsOf lsh256 32 (now (s .entry))) t ⌝ }
+{
+    load_block(m, s);
+    let mut r = t;
+    for k in 0..Lsh256::STEPS / 2 {
+        let u = two_steps(sc, m, k * 2, r);
+        r = u;
+        expand_two(m, k * 2);
+    }
+    add_message(r, sub_message(m, Lsh256::STEPS))
+}
+
+// The steps are taken back from the last, so all the sub-messages are worked out first.
+fn backward_block(sc: &[u32; Lsh256::CONSTANTS], m: &mut [u32; Lsh256::EXPANDED], s: &[u8], t: [u32; 16]) -> [u32; 16]
+    requires { ⌜ (now sc ≡ constants lsh256) × (length (now s) ≡ 128) ⌝ }
+    ensures { λ r. ⌜ r ≡ backward lsh256 (wordsOf lsh256 32 (now (s .entry))) t ⌝ }
+{
+    load_block(m, s);
+    expand_all(m);
+    let mut r = add_message(t, sub_message(m, Lsh256::STEPS));
+    let mut k = Lsh256::STEPS / 2;
+    while 0 < k {
+        k -= 1;
+        let u = two_unsteps(sc, m, k * 2, r);
+        r = u;
+    }
+    r
+}
+
+// Runs the whole blocks of s forward, in order, on the chain t.
+pub fn forward(t: [u32; 16], s: &[u8]) -> Run
+    ensures { λ r. ⌜ (r .chain ≡ forwards lsh256 (blocksOf lsh256 (now (s .entry))) t) × (r .count ≡ length (now (s .entry)) / 128) ⌝ }
+{
+    let sc = step_constants();
+    let mut m = [0u32; Lsh256::EXPANDED];
+    let mut c = t;
+    let mut count = 0;
+    let mut a = 0;
+    while Lsh256::BLOCK <= s.len() - a {
+        let e = a + Lsh256::BLOCK;
+        let u = forward_block(&sc, &mut m, &s[a..e], c);
+        c = u;
+        count += 1;
+        a = e;
+    }
+    Run { chain: c, count: count }
+}
+
+// Runs the whole blocks of s backward, from the last, on the chain t.
+pub fn backward(t: [u32; 16], s: &[u8]) -> Run
+    ensures { λ r. ⌜ (r .chain ≡ backwards lsh256 (blocksOf lsh256 (now (s .entry))) t) × (r .count ≡ length (now (s .entry)) / 128) ⌝ }
+{
+    let sc = step_constants();
+    let mut m = [0u32; Lsh256::EXPANDED];
+    let mut c = t;
+    let mut count = 0;
+    let mut e = s.len() / Lsh256::BLOCK * Lsh256::BLOCK;
+    while 0 < e {
+        let a = e - Lsh256::BLOCK;
+        let u = backward_block(&sc, &mut m, &s[a..e], c);
+        c = u;
+        count += 1;
+        e = a;
+    }
+    Run { chain: c, count: count }
+}
+
+// The words of a chain's bytes.
+pub fn load_chain(s: &[u8]) -> [u32; 16]
+    requires { ⌜ length (now s) ≡ 64 ⌝ }
+    ensures { λ r. ⌜ r ≡ wordsOf lsh256 16 (now (s .entry)) ⌝ }
+{
+    let mut r = [0u32; 16];
+    for l in 0..16 {
+        r[l] = word32::load(s, l * 4);
+    }
+    r
+}
+
+// Puts the bytes of a chain into d.
+pub fn store_chain(d: &mut [u8], t: [u32; 16])
+    requires { ⌜ length (now d) ≡ 64 ⌝ }
+    ensures { λ _. ⌜ now (d .exit) ≡ bytesOf lsh256 t ⌝ }
+{
+    for l in 0..16 {
+        word32::store(d, l * 4, t[l]);
+    }
+}
