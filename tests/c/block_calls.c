@@ -47,42 +47,42 @@ static uint64_t next_random(void)
 
 /* ---- buffers ---- */
 
-#define GUARD 64                 /* guard bytes on each side of a buffer, at least */
-#define ALIGNMENT 16             /* a buffer starts at any distance from a multiple of this */
+#define GUARD 64     /* guard bytes before and after a buffer, at least */
+#define ALIGNMENT 16 /* a buffer starts at any distance from a multiple of this */
 #define LARGEST LSH_BLOCK_BYTES(64)
-#define ROOM (GUARD + ALIGNMENT + LARGEST + GUARD)
+#define GUARDED (GUARD + ALIGNMENT + LARGEST + GUARD)
 
 /* A buffer to lend, the guard bytes around it, and a copy of all of them. */
-struct room {
-    _Alignas(ALIGNMENT) uint8_t bytes[ROOM];
-    uint8_t copy[ROOM];
+struct guarded {
+    _Alignas(ALIGNMENT) uint8_t bytes[GUARDED];
+    uint8_t copy[GUARDED];
     size_t start; /* of the buffer, in bytes */
 };
 
-static uint8_t *buffer(struct room *room)
+static uint8_t *buffer(struct guarded *guarded)
 {
-    return room->bytes + room->start;
+    return guarded->bytes + guarded->start;
 }
 
-static void take_copy(struct room *room)
+static void take_copy(struct guarded *guarded)
 {
-    memcpy(room->copy, room->bytes, ROOM);
+    memcpy(guarded->copy, guarded->bytes, GUARDED);
 }
 
-static void fill(struct room *room)
+static void fill(struct guarded *guarded)
 {
-    room->start = GUARD + next_random() % ALIGNMENT;
-    for (size_t i = 0; i < ROOM; i++) {
-        room->bytes[i] = (uint8_t)next_random();
+    guarded->start = GUARD + next_random() % ALIGNMENT;
+    for (size_t i = 0; i < GUARDED; i++) {
+        guarded->bytes[i] = (uint8_t)next_random();
     }
 }
 
-/* Whether all bytes are those of the copy, but for the first `free` bytes of the buffer. */
-static bool kept_but(const struct room *room, size_t free)
+/* Whether all bytes are those of the copy, except for the first `writable` bytes of the buffer. */
+static bool kept_except(const struct guarded *guarded, size_t writable)
 {
-    size_t end = room->start + free;
-    return memcmp(room->bytes, room->copy, room->start) == 0
-        && memcmp(room->bytes + end, room->copy + end, ROOM - end) == 0;
+    size_t end = guarded->start + writable;
+    return memcmp(guarded->bytes, guarded->copy, guarded->start) == 0
+        && memcmp(guarded->bytes + end, guarded->copy + end, GUARDED - end) == 0;
 }
 
 /* ---- calls ---- */
@@ -108,12 +108,13 @@ static uint32_t right_answer(uint64_t w, size_t chain_len, size_t block_len)
     return LSH_ACCEPTED;
 }
 
-/* Makes one call and checks its answer, and that it wrote nothing but the chain that it accepted. The lengths may be
- * wrong, and larger than the room: a refused call reads no byte. */
-static void make_call(const struct run *run, uint64_t w, struct room *chain, size_t chain_len, struct room *block,
-                      size_t block_len)
+/* Makes one call and checks its answer, and that it writes nothing but the chain, and that only if it accepts. A wrong
+ * length may pass the end of the memory: a refused call reads nothing. */
+static void make_call(const struct run *run, uint64_t w, struct guarded *chain, size_t chain_len,
+                      struct guarded *block, size_t block_len)
 {
     uint32_t right = right_answer(w, chain_len, block_len);
+    bool accepted = right == LSH_ACCEPTED;
     take_copy(chain);
     take_copy(block);
     uint32_t answer = run->call(w, buffer(chain), chain_len, buffer(block), block_len);
@@ -122,11 +123,12 @@ static void make_call(const struct run *run, uint64_t w, struct room *chain, siz
     snprintf(said, sizeof said, "%s(w = %" PRIu64 ", chain of %zu bytes, block of %zu bytes)", run->name, w, chain_len,
              block_len);
     check(answer == right, "%s answers %" PRIu32 ", not %" PRIu32, said, answer, right);
-    check(kept_but(chain, right == LSH_ACCEPTED ? chain_len : 0), "%s writes to the chain's room what it may not", said);
-    check(kept_but(block, 0), "%s writes to the block's room", said);
+    check(kept_except(chain, accepted ? chain_len : 0), "%s writes %s", said,
+          accepted ? "outside the chain" : "to the chain or around it");
+    check(kept_except(block, 0), "%s writes to the block or around it", said);
 }
 
-static void make_right_call(const struct run *run, uint64_t w, struct room *chain, struct room *block)
+static void make_right_call(const struct run *run, uint64_t w, struct guarded *chain, struct guarded *block)
 {
     make_call(run, w, chain, LSH_CHAIN_BYTES(w), block, LSH_BLOCK_BYTES(w));
 }
@@ -151,7 +153,7 @@ static const size_t tried_block_lengths[] = {
 
 static void try_word_sizes_and_lengths(const struct run *run)
 {
-    struct room chain, block;
+    struct guarded chain, block;
     for (size_t w = 0; w < COUNT(tried_word_sizes); w++) {
         for (size_t c = 0; c < COUNT(tried_chain_lengths); c++) {
             for (size_t b = 0; b < COUNT(tried_block_lengths); b++) {
@@ -166,7 +168,7 @@ static void try_word_sizes_and_lengths(const struct run *run)
 /* Each run changes a random chain, and the other run gives it back. */
 static void try_round_trips(uint64_t w, const struct run *there, const struct run *back)
 {
-    struct room chain, block;
+    struct guarded chain, block;
     uint8_t first[LARGEST];
     for (int i = 0; i < ROUNDS; i++) {
         fill(&chain);
@@ -211,7 +213,7 @@ static void try_opening_chain(const struct opening *opening)
     store_words(w, seed_words, seed);
     store_words(w, opening->words, published);
 
-    struct room chain, block;
+    struct guarded chain, block;
     fill(&chain);
     fill(&block);
     memcpy(buffer(&chain), seed, LSH_CHAIN_BYTES(w));

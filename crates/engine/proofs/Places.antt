@@ -1,9 +1,9 @@
 -- A loop that stores f k at place p k, for k = 0, 1, ..
 -- Assumes nothing.
-use mathlib.Core.Path.{_≡_, refl, sym, ap, _∙_}
+use mathlib.Core.Path.{_≡_, refl, sym, ap, _∙_, subst}
 use mathlib.Core.List.{List, [], _∷_}
 use Prim.Native.Nat.{ℕ, zero, suc, _+_, _-_, _≤_, _<_, zero-le}
-use native.Mathlib.Nat.{add-zero, add-suc, suc-add, not-suc-le-zero}
+use native.Mathlib.Nat.{add-zero, zero-add, add-suc, suc-add, not-suc-le-zero}
 use native.Mathlib.Decide.{ℕ-discrete, decLt}
 use native.Mathlib.Omega.{arith}
 use lib.ListN.{length, set, length-set}
@@ -116,3 +116,8 @@ stored-all a {n} {f} {m₀} {m} {i} h le room =
         ∙ sym (ap (at (sets m₀ a vs)) e ∙ at-sets-in m₀ a vs k (rw len room) (rw len hk) ∙ at-tabulate n f k hk)
     go q (no from) (no after) =
         h .rest q (λ k hk e. let u : i ≤ n = h .upTo in omega arith) ∙ sym (at-sets-after m₀ a vs q (rw len (omega arith)))
+
+-- stores at 0, 1, .. into the front of a longer list
+pub stored-front : {n : ℕ} {f : ℕ → ℕ} {m₀ m : List ℕ} {i : ℕ} → Placed n (λ k. k) f m₀ m i → n ≤ i → n ≤ length m₀ → m ≡ sets m₀ 0 (tabulate n f)
+stored-front {n} {f} {m₀} {m} {i} h le room =
+    stored-all 0 (subst (λ (p : ℕ → ℕ). Placed n p f m₀ m i) (λ d k. sym (zero-add k) d) h) le (rw (zero-add n) room)

@@ -6,13 +6,30 @@ use Prim.Native.Nat.{ℕ, zero, suc, _+_, _-_, _*_, _/_, _≤_, _<_, zero-le}
 use native.Mathlib.Nat.{le-antisymm, zero-add}
 use native.Mathlib.Numerals.{add-one}
 use native.Mathlib.Omega.{arith}
-use lib.ListN.{length, take, drop}
+use lib.ListN.{length, take, drop, length-drop}
+use lib.Seq.{length-take-le}
 use Rattle.lsh.specs.WordSize.{WordSize, blockBytes}
 use Rattle.lsh.specs.Bytes.{wordsOf}
 use Rattle.lsh.specs.Block.{forward, backward, forwards, backwards}
 use Rattle.lsh.specs.Padding.{firstBlocks, blocksOf}
 use Rattle.lsh.proofs.Blocks.{forwards-append, backwards-append}
 use Rattle.lsh.proofs.Padding.{blockAt, firstBlocks-more}
+
+-- the part of s that the code lends for block k, from place k * B to k * B + B
+abbrev pub part : WordSize → List ℕ → ℕ → List ℕ
+part z s k = take (k * blockBytes z + blockBytes z - k * blockBytes z) (drop (k * blockBytes z) s)
+
+pub length-part : (z : WordSize) (s : List ℕ) (k : ℕ) → k * blockBytes z + blockBytes z ≤ length s → length (part z s k) ≡ blockBytes z
+length-part z s k room =
+    let B : ℕ = blockBytes z in
+    let e : k * B + B - k * B ≡ B = omega arith in
+    rw e (length-take-le B (drop (k * B) s) (rw (length-drop (k * B) s) (omega arith)))
+
+part-block : (z : WordSize) (s : List ℕ) (k : ℕ) → wordsOf z 32 (part z s k) ≡ blockAt z s k
+part-block z s k =
+    let B : ℕ = blockBytes z in
+    let e : k * B + B - k * B ≡ B = omega arith in
+    ap (λ (n : ℕ). wordsOf z 32 (take n (drop (k * B) s))) e
 
 -- count blocks of n are run
 pub record RunForward (z : WordSize) (n : ℕ) (s t c : List ℕ) (count : ℕ) : Type 0 where
@@ -24,13 +41,13 @@ unfolding firstBlocks forwards
 run-forward-none z n s t = record { upTo = zero-le; chain = refl }
 
 pub run-forward-more : {z : WordSize} {n : ℕ} {s t c : List ℕ} {count : ℕ} (u : List ℕ) → RunForward z n s t c count → count < n
-    → u ≡ forward z (blockAt z s count) c → RunForward z n s t u (count + 1)
+    → u ≡ forward z (wordsOf z 32 (part z s count)) c → RunForward z n s t u (count + 1)
 unfolding forwards
 run-forward-more {z} {n} {s} {t} {c} {count} u h lt e =
     record {
       upTo = omega arith;
       chain =
-          e ∙ ap (forward z (blockAt z s count)) (h .chain)
+          e ∙ ap₂ (forward z) (part-block z s count) (h .chain)
           ∙ sym (ap (λ (k : ℕ). forwards z (firstBlocks z k s) t) (add-one count)
           ∙ ap (λ (bs : List (List ℕ)). forwards z bs t) (firstBlocks-more z count s)
           ∙ forwards-append z (firstBlocks z count s) (blockAt z s count ∷ []) t);
@@ -52,7 +69,7 @@ pub run-backward-none : (z : WordSize) (n : ℕ) (s t : List ℕ) → RunBackwar
 run-backward-none z n s t = record { both = zero-add n; chain = refl }
 
 pub run-backward-more : {z : WordSize} {n : ℕ} {s t c : List ℕ} {count left : ℕ} (u : List ℕ) → RunBackward z n s t c count left → 0 < left
-    → u ≡ backward z (blockAt z s (left - 1)) c → RunBackward z n s t u (count + 1) (left - 1)
+    → u ≡ backward z (wordsOf z 32 (part z s (left - 1))) c → RunBackward z n s t u (count + 1) (left - 1)
 unfolding backwards
 run-backward-more {z} {n} {s} {t} {c} {count} {left} u h lt e =
     let k : ℕ = left - 1 in
@@ -61,7 +78,7 @@ run-backward-more {z} {n} {s} {t} {c} {count} {left} u h lt e =
     record {
       both = omega arith;
       chain =
-          ap (backwards z (firstBlocks z k s)) e
+          ap (backwards z (firstBlocks z k s)) (e ∙ ap (λ (w : List ℕ). backward z w c) (part-block z s k))
           ∙ sym (ap (λ (i : ℕ). backwards z (firstBlocks z i s) c) before
           ∙ ap (λ (bs : List (List ℕ)). backwards z bs c) (firstBlocks-more z k s)
           ∙ backwards-append z (firstBlocks z k s) (blockAt z s k ∷ []) c)

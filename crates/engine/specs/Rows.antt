@@ -1,4 +1,5 @@
--- The sub-messages of a block in one array of words: M_j is row j, the 16 words from place j * 16 on.
+-- The sub-messages of a block in one array of words: M_j is row j, the 16 words from place j * 16 on. There is room for one more than M_Ns,
+-- since the code works out two at a time.
 -- Assumes nothing.
 use mathlib.Core.List.{List}
 use Prim.Native.Nat.{ℕ, zero, suc, _+_, _*_}
@@ -6,6 +7,9 @@ use lib.Seq.{sets}
 use Rattle.lsh.specs.Tabulate.{at, tabulate}
 use Rattle.lsh.specs.WordSize.{WordSize}
 use Rattle.lsh.specs.Expansion.{nextSubMessage}
+
+unfoldable pub expandedWords : WordSize → ℕ
+expandedWords z = 16 * (z .steps + 2)
 
 unfoldable pub row : List ℕ → ℕ → List ℕ
 row m j = tabulate 16 (λ l. at m (j * 16 + l))

@@ -81,6 +81,10 @@ word-lt (suc k) s a h =
     let e : 2 ^ (8 * suc k) ≡ 256 * 2 ^ (8 * k) = ap (λ (n : ℕ). 2 ^ n) m ∙ pow-add 2 8 (8 * k) in
     rw e (omega arith)
 
+pub length-words : (z : WordSize) (n : ℕ) (s : List ℕ) → length (wordsOf z n s) ≡ n
+unfolding wordsOf
+length-words z n s = length-tabulate n (λ l. wordAt (wordBytes z) s (l * wordBytes z))
+
 module _ (z : WordSize) (ok : Octets z) where
   -- the words of bytes are a chain
   pub words-chain : (s : List ℕ) → Bytes s → Chain z (wordsOf z 16 s)
@@ -106,7 +110,7 @@ module _ (z : WordSize) (ok : Octets z) where
   pub bytes-of-words : (n : ℕ) (s : List ℕ) → length s ≡ n * wordBytes z → Bytes s → bytesOf z (wordsOf z n s) ≡ s
   unfolding wordsOf bytesOf
   bytes-of-words n s e h =
-      let len : length (wordsOf z n s) ≡ n = length-tabulate n _ in
+      let len : length (wordsOf z n s) ≡ n = length-words z n s in
       tabulate-ext (length (wordsOf z n s) * wordBytes z) _ s (e ∙ ap (λ (m : ℕ). m * wordBytes z) (sym len))
       λ i lt.
       let inside : i / wordBytes z < n = div-lt-iff-lt-mul (ok .some) .1 (subst (λ (m : ℕ). i < m * wordBytes z) len lt) in

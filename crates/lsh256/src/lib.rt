@@ -3,14 +3,14 @@ ghost use mathlib.Core.Path.{_≡_};
 ghost use Prim.Native.Nat.{_+_, _*_, _/_, _<_, _≤_};
 ghost use lib.ListN.{length};
 ghost use lib.Seq.{sets};
-ghost use Rattle.lsh.specs.WordSize.{lsh256};
+ghost use Rattle.lsh.specs.WordSize.{lsh256, blockBytes};
 ghost use Rattle.lsh.specs.StepConstants.{constant, constants};
 ghost use Rattle.lsh.specs.Bytes.{wordsOf, bytesOf};
 ghost use Rattle.lsh.specs.Lane.{lane, mixLane, unmixLane};
 ghost use Rattle.lsh.specs.Step.{addMessage, mix, unmix, permute, unpermute, step, unstep};
 ghost use Rattle.lsh.specs.Block.{forward, backward, forwards, backwards};
 ghost use Rattle.lsh.specs.Padding.{blocksOf};
-ghost use Rattle.engine.specs.Rows.{row, expandRow, expandRows};
+ghost use Rattle.engine.specs.Rows.{expandedWords, row, expandRow, expandRows};
 
 // The figures of the word size.
 pub struct Lsh256 {}
@@ -388,8 +388,8 @@ fn unstep(sc: &[u32; Lsh256::CONSTANTS], j: usize, m: [u32; 16], t: [u32; 16]) -
 }
 
 // M_0 and M_1 (7): the words of a block.
-fn load_block(m: &mut [u32; Lsh256::EXPANDED], s: &[u8])
-    requires { ⌜ length (now s) ≡ 128 ⌝ }
+fn load_block(m: &mut [u32], s: &[u8])
+    requires { ⌜ (length (now m) ≡ expandedWords lsh256) × (length (now s) ≡ 128) ⌝ }
     ensures { λ _. ⌜ now (m .exit) ≡ sets (now (m .entry)) 0 (wordsOf lsh256 32 (now (s .entry))) ⌝ }
 {
     for l in 0..32 {
@@ -398,8 +398,8 @@ fn load_block(m: &mut [u32; Lsh256::EXPANDED], s: &[u8])
 }
 
 // M_(j+2) (8)
-fn expand(m: &mut [u32; Lsh256::EXPANDED], j: usize)
-    requires { ⌜ j < 26 ⌝ }
+fn expand(m: &mut [u32], j: usize)
+    requires { ⌜ (length (now m) ≡ expandedWords lsh256) × (j < 26) ⌝ }
     ensures { λ _. ⌜ now (m .exit) ≡ expandRow lsh256 (now (m .entry)) j ⌝ }
 {
     let tau = TAU;
@@ -410,9 +410,9 @@ fn expand(m: &mut [u32; Lsh256::EXPANDED], j: usize)
 }
 
 // M_j
-fn sub_message(m: &[u32; Lsh256::EXPANDED], j: usize) -> [u32; 16]
-    requires { ⌜ j < 28 ⌝ }
-    ensures { λ r. ⌜ r ≡ row (now m) j ⌝ }
+fn sub_message(m: &[u32], j: usize) -> [u32; 16]
+    requires { ⌜ (length (now m) ≡ expandedWords lsh256) × (j < 28) ⌝ }
+    ensures { λ r. ⌜ r ≡ row (now (m .entry)) j ⌝ }
 {
     let a = j * 16;
     let mut r = [0u32; 16];
@@ -423,24 +423,24 @@ fn sub_message(m: &[u32; Lsh256::EXPANDED], j: usize) -> [u32; 16]
 }
 
 // The steps j and j + 1: with an even j the amounts of both are constants to the compiler.
-fn two_steps(sc: &[u32; Lsh256::CONSTANTS], m: &[u32; Lsh256::EXPANDED], j: usize, t: [u32; 16]) -> [u32; 16]
-    requires { ⌜ (now sc ≡ constants lsh256) × (j + 1 < 26) ⌝ }
-    ensures { λ r. ⌜ r ≡ step lsh256 (j + 1) (row (now m) (j + 1)) (step lsh256 j (row (now m) j) t) ⌝ }
+fn two_steps(sc: &[u32; Lsh256::CONSTANTS], m: &[u32], j: usize, t: [u32; 16]) -> [u32; 16]
+    requires { ⌜ (now sc ≡ constants lsh256) × (length (now m) ≡ expandedWords lsh256) × (j + 1 < 26) ⌝ }
+    ensures { λ r. ⌜ r ≡ step lsh256 (j + 1) (row (now (m .entry)) (j + 1)) (step lsh256 j (row (now (m .entry)) j) t) ⌝ }
 {
     let u = step(sc, j, sub_message(m, j), t);
     step(sc, j + 1, sub_message(m, j + 1), u)
 }
 
-fn two_unsteps(sc: &[u32; Lsh256::CONSTANTS], m: &[u32; Lsh256::EXPANDED], j: usize, t: [u32; 16]) -> [u32; 16]
-    requires { ⌜ (now sc ≡ constants lsh256) × (j + 1 < 26) ⌝ }
-    ensures { λ r. ⌜ r ≡ unstep lsh256 j (row (now m) j) (unstep lsh256 (j + 1) (row (now m) (j + 1)) t) ⌝ }
+fn two_unsteps(sc: &[u32; Lsh256::CONSTANTS], m: &[u32], j: usize, t: [u32; 16]) -> [u32; 16]
+    requires { ⌜ (now sc ≡ constants lsh256) × (length (now m) ≡ expandedWords lsh256) × (j + 1 < 26) ⌝ }
+    ensures { λ r. ⌜ r ≡ unstep lsh256 j (row (now (m .entry)) j) (unstep lsh256 (j + 1) (row (now (m .entry)) (j + 1)) t) ⌝ }
 {
     let u = unstep(sc, j + 1, sub_message(m, j + 1), t);
     unstep(sc, j, sub_message(m, j), u)
 }
 
-fn expand_two(m: &mut [u32; Lsh256::EXPANDED], j: usize)
-    requires { ⌜ j + 1 < 26 ⌝ }
+fn expand_two(m: &mut [u32], j: usize)
+    requires { ⌜ (length (now m) ≡ expandedWords lsh256) × (j + 1 < 26) ⌝ }
     ensures { λ _. ⌜ now (m .exit) ≡ expandRow lsh256 (expandRow lsh256 (now (m .entry)) j) (j + 1) ⌝ }
 {
     expand(m, j);
@@ -448,7 +448,8 @@ fn expand_two(m: &mut [u32; Lsh256::EXPANDED], j: usize)
 }
 
 // M_2 to M_26.
-fn expand_all(m: &mut [u32; Lsh256::EXPANDED])
+fn expand_all(m: &mut [u32])
+    requires { ⌜ length (now m) ≡ expandedWords lsh256 ⌝ }
     ensures { λ _. ⌜ now (m .exit) ≡ expandRows lsh256 (now (m .entry)) 25 ⌝ }
 {
     for j in 0..Lsh256::STEPS - 1 {
@@ -457,8 +458,8 @@ fn expand_all(m: &mut [u32; Lsh256::EXPANDED])
 }
 
 // The block s, on the chain t. m is room for the sub-messages: each is worked out two steps before it is used.
-fn forward_block(sc: &[u32; Lsh256::CONSTANTS], m: &mut [u32; Lsh256::EXPANDED], s: &[u8], t: [u32; 16]) -> [u32; 16]
-    requires { ⌜ (now sc ≡ constants lsh256) × (length (now s) ≡ 128) ⌝ }
+fn forward_block(sc: &[u32; Lsh256::CONSTANTS], m: &mut [u32], s: &[u8], t: [u32; 16]) -> [u32; 16]
+    requires { ⌜ (now sc ≡ constants lsh256) × (length (now m) ≡ expandedWords lsh256) × (length (now s) ≡ 128) ⌝ }
     ensures { λ r. ⌜ r ≡ forward lsh256 (wordsOf lsh256 32 (now (s .entry))) t ⌝ }
 {
     load_block(m, s);
@@ -472,8 +473,8 @@ fn forward_block(sc: &[u32; Lsh256::CONSTANTS], m: &mut [u32; Lsh256::EXPANDED],
 }
 
 // The steps are taken back from the last, so all the sub-messages are worked out first.
-fn backward_block(sc: &[u32; Lsh256::CONSTANTS], m: &mut [u32; Lsh256::EXPANDED], s: &[u8], t: [u32; 16]) -> [u32; 16]
-    requires { ⌜ (now sc ≡ constants lsh256) × (length (now s) ≡ 128) ⌝ }
+fn backward_block(sc: &[u32; Lsh256::CONSTANTS], m: &mut [u32], s: &[u8], t: [u32; 16]) -> [u32; 16]
+    requires { ⌜ (now sc ≡ constants lsh256) × (length (now m) ≡ expandedWords lsh256) × (length (now s) ≡ 128) ⌝ }
     ensures { λ r. ⌜ r ≡ backward lsh256 (wordsOf lsh256 32 (now (s .entry))) t ⌝ }
 {
     load_block(m, s);
@@ -488,42 +489,54 @@ fn backward_block(sc: &[u32; Lsh256::CONSTANTS], m: &mut [u32; Lsh256::EXPANDED]
     r
 }
 
+// Room for the sub-messages of a block.
+fn room() -> [u32; Lsh256::EXPANDED] {
+    [0u32; Lsh256::EXPANDED]
+}
+
 // Runs the whole blocks of s forward, in order, on the chain t.
 pub fn forward(t: [u32; 16], s: &[u8]) -> Run
-    ensures { λ r. ⌜ (r .chain ≡ forwards lsh256 (blocksOf lsh256 (now (s .entry))) t) × (r .count ≡ length (now (s .entry)) / 128) ⌝ }
+    ensures { λ r. ⌜ (r .chain ≡ forwards lsh256 (blocksOf lsh256 (now (s .entry))) t) × (r .count ≡ length (now (s .entry)) / blockBytes lsh256) ⌝ }
 {
     let sc = step_constants();
-    let mut m = [0u32; Lsh256::EXPANDED];
+    let mut m = room();
+    let n = s.len() / Lsh256::BLOCK;
     let mut c = t;
     let mut count = 0;
-    let mut a = 0;
-    while Lsh256::BLOCK <= s.len() - a {
+    while count < n {
+        let a = count * Lsh256::BLOCK;
         let e = a + Lsh256::BLOCK;
         let u = forward_block(&sc, &mut m, &s[a..e], c);
         c = u;
         count += 1;
-        a = e;
     }
-    Run { chain: c, count: count }
+    Run {
+        chain: c,
+        count: count,
+    }
 }
 
 // Runs the whole blocks of s backward, from the last, on the chain t.
 pub fn backward(t: [u32; 16], s: &[u8]) -> Run
-    ensures { λ r. ⌜ (r .chain ≡ backwards lsh256 (blocksOf lsh256 (now (s .entry))) t) × (r .count ≡ length (now (s .entry)) / 128) ⌝ }
+    ensures { λ r. ⌜ (r .chain ≡ backwards lsh256 (blocksOf lsh256 (now (s .entry))) t) × (r .count ≡ length (now (s .entry)) / blockBytes lsh256) ⌝ }
 {
     let sc = step_constants();
-    let mut m = [0u32; Lsh256::EXPANDED];
+    let mut m = room();
+    let mut left = s.len() / Lsh256::BLOCK;
     let mut c = t;
     let mut count = 0;
-    let mut e = s.len() / Lsh256::BLOCK * Lsh256::BLOCK;
-    while 0 < e {
-        let a = e - Lsh256::BLOCK;
+    while 0 < left {
+        left -= 1;
+        let a = left * Lsh256::BLOCK;
+        let e = a + Lsh256::BLOCK;
         let u = backward_block(&sc, &mut m, &s[a..e], c);
         c = u;
         count += 1;
-        e = a;
     }
-    Run { chain: c, count: count }
+    Run {
+        chain: c,
+        count: count,
+    }
 }
 
 // The words of a chain's bytes.

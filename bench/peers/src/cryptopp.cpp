@@ -1,0 +1,15 @@
+// Crypto++'s LSH-256-256 and LSH-512-512 of a whole message, for the benchmark to call.
+#include <cstddef>
+#include <cstdint>
+
+#include <cryptopp/lsh.h>
+
+extern "C" void cryptopp_lsh256(const std::uint8_t *message, std::size_t length, std::uint8_t *digest)
+{
+    CryptoPP::LSH256().CalculateDigest(digest, message, length);
+}
+
+extern "C" void cryptopp_lsh512(const std::uint8_t *message, std::size_t length, std::uint8_t *digest)
+{
+    CryptoPP::LSH512().CalculateDigest(digest, message, length);
+}
