@@ -1,7 +1,6 @@
 // Block forward and Block backward: one block on the bytes of a chain, for either word size.
 ghost use mathlib.Core.Path.{_≡_};
 ghost use Rattle.block_call.specs.BlockCall.{blockAnswer, forwardBytes, backwardBytes};
-
 use lsh256::Lsh256;
 use lsh512::Lsh512;
 

@@ -1,9 +1,9 @@
 // LSH-256: whole blocks of 128 bytes run forward and backward on a chain of 16 words of 32 bits.
 ghost use mathlib.Core.Path.{_≡_};
-ghost use Prim.Native.Nat.{_+_, _*_, _/_, _<_, _≤_};
+ghost use Prim.Native.Nat.{_+_, _-_, _/_, _<_};
 ghost use lib.ListN.{length};
 ghost use lib.Seq.{sets};
-ghost use Rattle.lsh.specs.WordSize.{lsh256, blockBytes};
+ghost use Rattle.lsh.specs.WordSize.{lsh256, chainBytes, blockBytes};
 ghost use Rattle.lsh.specs.StepConstants.{constant, constants};
 ghost use Rattle.lsh.specs.Bytes.{wordsOf, bytesOf};
 ghost use Rattle.lsh.specs.Lane.{lane, mixLane, unmixLane};
@@ -273,7 +273,7 @@ fn step_constants() -> [u32; Lsh256::CONSTANTS]
 }
 
 fn step_constant(sc: &[u32; Lsh256::CONSTANTS], j: usize, l: usize) -> u32
-    requires { ⌜ (now sc ≡ constants lsh256) × (j < 26) × (l < 8) ⌝ }
+    requires { ⌜ (now sc ≡ constants lsh256) × (j < lsh256 .steps) × (l < 8) ⌝ }
     ensures { λ r. ⌜ r ≡ constant lsh256 j l ⌝ }
 {
     sc[j * 8 + l]
@@ -281,8 +281,8 @@ fn step_constant(sc: &[u32; Lsh256::CONSTANTS], j: usize, l: usize) -> u32
 
 // (22)
 fn mix_lane(a: u32, b: u32, g: u32, c: u32, x: u32, y: u32) -> Pair
-    requires { ⌜ (a < 32) × (b < 32) × (g < 32) ⌝ }
-    ensures { λ r. ⌜ lane (r .x) (r .y) ≡ mixLane 32 a b g c (lane x y) ⌝ }
+    requires { ⌜ (a < lsh256 .bits) × (b < lsh256 .bits) × (g < lsh256 .bits) ⌝ }
+    ensures { λ r. ⌜ lane (r .x) (r .y) ≡ mixLane (lsh256 .bits) a b g c (lane x y) ⌝ }
 {
     let x1 = word32::exclusive_or(word32::rotate_left(word32::add(x, y), a), c);
     let y1 = word32::rotate_left(word32::add(y, x1), b);
@@ -293,8 +293,8 @@ fn mix_lane(a: u32, b: u32, g: u32, c: u32, x: u32, y: u32) -> Pair
 }
 
 fn unmix_lane(a: u32, b: u32, g: u32, c: u32, x: u32, y: u32) -> Pair
-    requires { ⌜ (a < 32) × (b < 32) × (g < 32) ⌝ }
-    ensures { λ r. ⌜ lane (r .x) (r .y) ≡ unmixLane 32 a b g c (lane x y) ⌝ }
+    requires { ⌜ (a < lsh256 .bits) × (b < lsh256 .bits) × (g < lsh256 .bits) ⌝ }
+    ensures { λ r. ⌜ lane (r .x) (r .y) ≡ unmixLane (lsh256 .bits) a b g c (lane x y) ⌝ }
 {
     let y1 = word32::rotate_right(y, g);
     let x1 = word32::subtract(x, y1);
@@ -318,7 +318,7 @@ fn add_message(t: [u32; 16], m: [u32; 16]) -> [u32; 16]
 
 // (10)
 fn mix(sc: &[u32; Lsh256::CONSTANTS], j: usize, t: [u32; 16]) -> [u32; 16]
-    requires { ⌜ (now sc ≡ constants lsh256) × (j < 26) ⌝ }
+    requires { ⌜ (now sc ≡ constants lsh256) × (j < lsh256 .steps) ⌝ }
     ensures { λ r. ⌜ r ≡ mix lsh256 j t ⌝ }
 {
     let a = ALPHA[j % 2];
@@ -334,7 +334,7 @@ fn mix(sc: &[u32; Lsh256::CONSTANTS], j: usize, t: [u32; 16]) -> [u32; 16]
 }
 
 fn unmix(sc: &[u32; Lsh256::CONSTANTS], j: usize, t: [u32; 16]) -> [u32; 16]
-    requires { ⌜ (now sc ≡ constants lsh256) × (j < 26) ⌝ }
+    requires { ⌜ (now sc ≡ constants lsh256) × (j < lsh256 .steps) ⌝ }
     ensures { λ r. ⌜ r ≡ unmix lsh256 j t ⌝ }
 {
     let a = ALPHA[j % 2];
@@ -374,14 +374,14 @@ fn unpermute(t: [u32; 16]) -> [u32; 16]
 
 // (6)
 fn step(sc: &[u32; Lsh256::CONSTANTS], j: usize, m: [u32; 16], t: [u32; 16]) -> [u32; 16]
-    requires { ⌜ (now sc ≡ constants lsh256) × (j < 26) ⌝ }
+    requires { ⌜ (now sc ≡ constants lsh256) × (j < lsh256 .steps) ⌝ }
     ensures { λ r. ⌜ r ≡ step lsh256 j m t ⌝ }
 {
     permute(mix(sc, j, add_message(t, m)))
 }
 
 fn unstep(sc: &[u32; Lsh256::CONSTANTS], j: usize, m: [u32; 16], t: [u32; 16]) -> [u32; 16]
-    requires { ⌜ (now sc ≡ constants lsh256) × (j < 26) ⌝ }
+    requires { ⌜ (now sc ≡ constants lsh256) × (j < lsh256 .steps) ⌝ }
     ensures { λ r. ⌜ r ≡ unstep lsh256 j m t ⌝ }
 {
     add_message(unmix(sc, j, unpermute(t)), m)
@@ -389,7 +389,7 @@ fn unstep(sc: &[u32; Lsh256::CONSTANTS], j: usize, m: [u32; 16], t: [u32; 16]) -
 
 // M_0 and M_1 (7): the words of a block.
 fn load_block(m: &mut [u32], s: &[u8])
-    requires { ⌜ (length (now m) ≡ expandedWords lsh256) × (length (now s) ≡ 128) ⌝ }
+    requires { ⌜ (length (now m) ≡ expandedWords lsh256) × (length (now s) ≡ blockBytes lsh256) ⌝ }
     ensures { λ _. ⌜ now (m .exit) ≡ sets (now (m .entry)) 0 (wordsOf lsh256 32 (now (s .entry))) ⌝ }
 {
     for l in 0..32 {
@@ -399,7 +399,7 @@ fn load_block(m: &mut [u32], s: &[u8])
 
 // M_(j+2) (8)
 fn expand(m: &mut [u32], j: usize)
-    requires { ⌜ (length (now m) ≡ expandedWords lsh256) × (j < 26) ⌝ }
+    requires { ⌜ (length (now m) ≡ expandedWords lsh256) × (j < lsh256 .steps) ⌝ }
     ensures { λ _. ⌜ now (m .exit) ≡ expandRow lsh256 (now (m .entry)) j ⌝ }
 {
     let tau = TAU;
@@ -411,7 +411,7 @@ fn expand(m: &mut [u32], j: usize)
 
 // M_j
 fn sub_message(m: &[u32], j: usize) -> [u32; 16]
-    requires { ⌜ (length (now m) ≡ expandedWords lsh256) × (j < 28) ⌝ }
+    requires { ⌜ (length (now m) ≡ expandedWords lsh256) × (j < lsh256 .steps + 2) ⌝ }
     ensures { λ r. ⌜ r ≡ row (now (m .entry)) j ⌝ }
 {
     let a = j * 16;
@@ -424,7 +424,7 @@ fn sub_message(m: &[u32], j: usize) -> [u32; 16]
 
 // The steps j and j + 1: with an even j the amounts of both are constants to the compiler.
 fn two_steps(sc: &[u32; Lsh256::CONSTANTS], m: &[u32], j: usize, t: [u32; 16]) -> [u32; 16]
-    requires { ⌜ (now sc ≡ constants lsh256) × (length (now m) ≡ expandedWords lsh256) × (j + 1 < 26) ⌝ }
+    requires { ⌜ (now sc ≡ constants lsh256) × (length (now m) ≡ expandedWords lsh256) × (j + 1 < lsh256 .steps) ⌝ }
     ensures { λ r. ⌜ r ≡ step lsh256 (j + 1) (row (now (m .entry)) (j + 1)) (step lsh256 j (row (now (m .entry)) j) t) ⌝ }
 {
     let u = step(sc, j, sub_message(m, j), t);
@@ -432,7 +432,7 @@ fn two_steps(sc: &[u32; Lsh256::CONSTANTS], m: &[u32], j: usize, t: [u32; 16]) -
 }
 
 fn two_unsteps(sc: &[u32; Lsh256::CONSTANTS], m: &[u32], j: usize, t: [u32; 16]) -> [u32; 16]
-    requires { ⌜ (now sc ≡ constants lsh256) × (length (now m) ≡ expandedWords lsh256) × (j + 1 < 26) ⌝ }
+    requires { ⌜ (now sc ≡ constants lsh256) × (length (now m) ≡ expandedWords lsh256) × (j + 1 < lsh256 .steps) ⌝ }
     ensures { λ r. ⌜ r ≡ unstep lsh256 j (row (now (m .entry)) j) (unstep lsh256 (j + 1) (row (now (m .entry)) (j + 1)) t) ⌝ }
 {
     let u = unstep(sc, j + 1, sub_message(m, j + 1), t);
@@ -440,7 +440,7 @@ fn two_unsteps(sc: &[u32; Lsh256::CONSTANTS], m: &[u32], j: usize, t: [u32; 16])
 }
 
 fn expand_two(m: &mut [u32], j: usize)
-    requires { ⌜ (length (now m) ≡ expandedWords lsh256) × (j + 1 < 26) ⌝ }
+    requires { ⌜ (length (now m) ≡ expandedWords lsh256) × (j + 1 < lsh256 .steps) ⌝ }
     ensures { λ _. ⌜ now (m .exit) ≡ expandRow lsh256 (expandRow lsh256 (now (m .entry)) j) (j + 1) ⌝ }
 {
     expand(m, j);
@@ -450,7 +450,7 @@ fn expand_two(m: &mut [u32], j: usize)
 // M_2 to M_26.
 fn expand_all(m: &mut [u32])
     requires { ⌜ length (now m) ≡ expandedWords lsh256 ⌝ }
-    ensures { λ _. ⌜ now (m .exit) ≡ expandRows lsh256 (now (m .entry)) 25 ⌝ }
+    ensures { λ _. ⌜ now (m .exit) ≡ expandRows lsh256 (now (m .entry)) (lsh256 .steps - 1) ⌝ }
 {
     for j in 0..Lsh256::STEPS - 1 {
         expand(m, j);
@@ -459,7 +459,7 @@ fn expand_all(m: &mut [u32])
 
 // The block s, on the chain t. m is room for the sub-messages: each is worked out two steps before it is used.
 fn forward_block(sc: &[u32; Lsh256::CONSTANTS], m: &mut [u32], s: &[u8], t: [u32; 16]) -> [u32; 16]
-    requires { ⌜ (now sc ≡ constants lsh256) × (length (now m) ≡ expandedWords lsh256) × (length (now s) ≡ 128) ⌝ }
+    requires { ⌜ (now sc ≡ constants lsh256) × (length (now m) ≡ expandedWords lsh256) × (length (now s) ≡ blockBytes lsh256) ⌝ }
     ensures { λ r. ⌜ r ≡ forward lsh256 (wordsOf lsh256 32 (now (s .entry))) t ⌝ }
 {
     load_block(m, s);
@@ -474,7 +474,7 @@ fn forward_block(sc: &[u32; Lsh256::CONSTANTS], m: &mut [u32], s: &[u8], t: [u32
 
 // The steps are taken back from the last, so all the sub-messages are worked out first.
 fn backward_block(sc: &[u32; Lsh256::CONSTANTS], m: &mut [u32], s: &[u8], t: [u32; 16]) -> [u32; 16]
-    requires { ⌜ (now sc ≡ constants lsh256) × (length (now m) ≡ expandedWords lsh256) × (length (now s) ≡ 128) ⌝ }
+    requires { ⌜ (now sc ≡ constants lsh256) × (length (now m) ≡ expandedWords lsh256) × (length (now s) ≡ blockBytes lsh256) ⌝ }
     ensures { λ r. ⌜ r ≡ backward lsh256 (wordsOf lsh256 32 (now (s .entry))) t ⌝ }
 {
     load_block(m, s);
@@ -541,7 +541,7 @@ pub fn backward(t: [u32; 16], s: &[u8]) -> Run
 
 // The words of a chain's bytes.
 pub fn load_chain(s: &[u8]) -> [u32; 16]
-    requires { ⌜ length (now s) ≡ 64 ⌝ }
+    requires { ⌜ length (now s) ≡ chainBytes lsh256 ⌝ }
     ensures { λ r. ⌜ r ≡ wordsOf lsh256 16 (now (s .entry)) ⌝ }
 {
     let mut r = [0u32; 16];
@@ -553,7 +553,7 @@ pub fn load_chain(s: &[u8]) -> [u32; 16]
 
 // Puts the bytes of a chain into d.
 pub fn store_chain(d: &mut [u8], t: [u32; 16])
-    requires { ⌜ length (now d) ≡ 64 ⌝ }
+    requires { ⌜ length (now d) ≡ chainBytes lsh256 ⌝ }
     ensures { λ _. ⌜ now (d .exit) ≡ bytesOf lsh256 t ⌝ }
 {
     for l in 0..16 {

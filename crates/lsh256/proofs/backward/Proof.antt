@@ -11,7 +11,7 @@ use Rattle.lsh256.proofs.backward.Statement.{statement}
 use Rattle.lsh256.proofs.backward.Tie as tie
 
 abbrev Inv-loop : tie.InvT-loop
-Inv-loop s sc m₀ left₀ c₀ count₀ m left c count = RunBackward lsh256 (length s / 128) s c₀ c count left × (length m ≡ 448)
+Inv-loop s sc m₀ left₀ c₀ count₀ m left c count = RunBackward lsh256 (length s / blockBytes lsh256) s c₀ c count left × (length m ≡ expandedWords lsh256)
 
 abbrev μ-loop : tie.MeasureT-loop
 μ-loop s sc m₀ left₀ c₀ count₀ m left c count = left

@@ -4,7 +4,7 @@ use Prim.Native.Nat.{_*_, _≤_}
 use native.Mathlib.Omega.{arith}
 use borrow.Author.Needs.{needs}
 use lib.ListN.{length}
-use Rattle.lsh.specs.WordSize.{lsh256}
+use Rattle.lsh.specs.WordSize.{lsh256, blockBytes}
 use Rattle.lsh.specs.Bytes.{wordsOf}
 use Rattle.lsh.specs.Step.{addMessage}
 use Rattle.lsh.proofs.Bytes.{length-words}
@@ -15,13 +15,13 @@ use Rattle.lsh256.proofs.backward_block.Statement.{statement}
 use Rattle.lsh256.proofs.backward_block.Tie as tie
 
 abbrev Inv-loop : tie.InvT-loop
-Inv-loop sc m s r₀ k₀ r k = Unstepped lsh256 m r₀ r k × (length m ≡ 448)
+Inv-loop sc m s r₀ k₀ r k = Unstepped lsh256 m r₀ r k × (length m ≡ expandedWords lsh256)
 
 abbrev μ-loop : tie.MeasureT-loop
 μ-loop sc m s r₀ k₀ r k = k
 
 pub backward-block-spec : {M : Type 1} → statement M
-unfolding lsh256 expandedWords
+unfolding lsh256 blockBytes expandedWords
 backward-block-spec =
     tie.close
     (tie.spec
@@ -34,8 +34,8 @@ backward-block-spec =
     (λ c. (unstepped-none lsh256 _ _ 13 refl, c .before .before .before .before .before .expand-all .kept .0 ∙ c .before .before .before .before .before .before .before .before .before .load-block .kept .0 ∙ c .before .before .before .before .before .before .before .before .before .before .before .before .before .pre .1))
     (λ c. omega arith)
     (λ c. omega arith)
-    (λ c κs. (c .before .before .before .before .before .before .before .before .before .before .before .before .before .before .before .before .pre .0, c .before .before .loop .inv .1, let h : c .before .before .loop .k * 2 ≤ 26 = c .before .before .loop .inv .0 .upTo in omega arith))
+    (λ c κs. (c .before .before .before .before .before .before .before .before .before .before .before .before .before .before .before .before .pre .0, c .before .before .loop .inv .1, let h : c .before .before .loop .k * 2 ≤ lsh256 .steps = c .before .before .loop .inv .0 .upTo in omega arith))
     (λ c. omega arith)
     (λ c. (unstepped-more _ (c .before .before .before .loop .inv .0) (c .before .before .loop-test .taken) (c .two-unsteps .ensures), c .before .before .before .loop .inv .1))
     (λ c. c .before .before .before .before .before .before .before .expand-all .kept .0 ∙ c .before .before .before .before .before .before .before .before .before .before .before .load-block .kept .0)
-    (λ c. let e : length (c .before .before .before .before .before .before .before .before .before .before .before .load-block .last .0) ≡ 448 = c .before .before .before .before .before .before .before .before .before .before .before .load-block .kept .0 ∙ c .before .before .before .before .before .before .before .before .before .before .before .before .before .before .before .pre .1 in unstepped-all (wordsOf lsh256 32 _) (c .before .before .before .before .before .before .before .before .before .before .before .before .before .before .before .args .t) (c .before .loop .inv .0) (c .loop-test .left) (expanded-rows lsh256 _ _ _ 25 (c .before .before .before .before .before .before .before .expand-all .ensures) (expanded-block lsh256 _ _ _ (c .before .before .before .before .before .before .before .before .before .before .before .load-block .ensures) (length-words lsh256 32 _) (omega (arith, c .before .before .before .before .before .before .before .before .before .before .before .before .before .before .before .pre .1))) (omega arith)) (c .before .before .add-message .ensures ∙ ap (addMessage lsh256 _) (c .before .before .before .sub-message .ensures))))
+    (λ c. let e : length (c .before .before .before .before .before .before .before .before .before .before .before .load-block .last .0) ≡ expandedWords lsh256 = c .before .before .before .before .before .before .before .before .before .before .before .load-block .kept .0 ∙ c .before .before .before .before .before .before .before .before .before .before .before .before .before .before .before .pre .1 in unstepped-all (wordsOf lsh256 32 _) (c .before .before .before .before .before .before .before .before .before .before .before .before .before .before .before .args .t) (c .before .loop .inv .0) (c .loop-test .left) (expanded-rows lsh256 _ _ _ 25 (c .before .before .before .before .before .before .before .expand-all .ensures) (expanded-block lsh256 _ _ _ (c .before .before .before .before .before .before .before .before .before .before .before .load-block .ensures) (length-words lsh256 32 _) (omega (arith, c .before .before .before .before .before .before .before .before .before .before .before .before .before .before .before .pre .1))) (omega arith)) (c .before .before .add-message .ensures ∙ ap (addMessage lsh256 _) (c .before .before .before .sub-message .ensures))))

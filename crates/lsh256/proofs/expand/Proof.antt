@@ -13,7 +13,7 @@ use Rattle.lsh256.proofs.expand.Statement.{statement}
 use Rattle.lsh256.proofs.expand.Tie as tie
 
 abbrev Inv-loop : tie.InvT-loop
-Inv-loop m₀ j tau a l₀ m l = Expanding lsh256 j m₀ m l × (length m₀ ≡ 448)
+Inv-loop m₀ j tau a l₀ m l = Expanding lsh256 j m₀ m l × (length m₀ ≡ expandedWords lsh256)
 
 abbrev μ-loop : tie.MeasureT-loop
 μ-loop m₀ j tau a l₀ m l = 16 - l

@@ -11,7 +11,7 @@ use Rattle.lsh256.proofs.expand_all.Statement.{statement}
 use Rattle.lsh256.proofs.expand_all.Tie as tie
 
 abbrev Inv-loop : tie.InvT-loop
-Inv-loop m₀ j₀ m j = AllExpanding lsh256 25 m₀ m j × (length m₀ ≡ 448)
+Inv-loop m₀ j₀ m j = AllExpanding lsh256 25 m₀ m j × (length m₀ ≡ expandedWords lsh256)
 
 abbrev μ-loop : tie.MeasureT-loop
 μ-loop m₀ j₀ m j = 25 - j

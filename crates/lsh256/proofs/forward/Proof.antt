@@ -11,7 +11,7 @@ use Rattle.lsh256.proofs.forward.Statement.{statement}
 use Rattle.lsh256.proofs.forward.Tie as tie
 
 abbrev Inv-loop : tie.InvT-loop
-Inv-loop s sc m₀ n c₀ count₀ m c count = RunForward lsh256 n s c₀ c count × (length m ≡ 448) × (n ≡ length s / 128)
+Inv-loop s sc m₀ n c₀ count₀ m c count = RunForward lsh256 n s c₀ c count × (length m ≡ expandedWords lsh256) × (n ≡ length s / blockBytes lsh256)
 
 abbrev μ-loop : tie.MeasureT-loop
 μ-loop s sc m₀ n c₀ count₀ m c count = n - count

@@ -4,7 +4,7 @@ use Prim.Native.Nat.{_-_}
 use native.Mathlib.Omega.{arith}
 use borrow.Author.Needs.{needs}
 use lib.ListN.{length}
-use Rattle.lsh.specs.WordSize.{lsh256}
+use Rattle.lsh.specs.WordSize.{lsh256, blockBytes}
 use Rattle.lsh.specs.Bytes.{wordsOf}
 use Rattle.lsh.specs.Step.{addMessage}
 use Rattle.lsh.proofs.Bytes.{length-words}
@@ -15,13 +15,13 @@ use Rattle.lsh256.proofs.forward_block.Statement.{statement}
 use Rattle.lsh256.proofs.forward_block.Tie as tie
 
 abbrev Inv-loop : tie.InvT-loop
-Inv-loop sc m₀ s r₀ k₀ m r k = Stepped lsh256 m₀ r₀ m r k × (length m₀ ≡ 448)
+Inv-loop sc m₀ s r₀ k₀ m r k = Stepped lsh256 m₀ r₀ m r k × (length m₀ ≡ expandedWords lsh256)
 
 abbrev μ-loop : tie.MeasureT-loop
 μ-loop sc m₀ s r₀ k₀ m r k = 13 - k
 
 pub forward-block-spec : {M : Type 1} → statement M
-unfolding lsh256 expandedWords
+unfolding lsh256 blockBytes expandedWords
 forward-block-spec =
     tie.close
     (tie.spec

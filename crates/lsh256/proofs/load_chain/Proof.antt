@@ -2,7 +2,7 @@
 use mathlib.Core.Path.{refl}
 use Prim.Native.Nat.{_-_, _*_}
 use native.Mathlib.Omega.{arith}
-use Rattle.lsh.specs.WordSize.{lsh256, wordBytes}
+use Rattle.lsh.specs.WordSize.{lsh256, wordBytes, chainBytes}
 use Rattle.lsh.specs.Bytes.{wordAt, wordsOf}
 use Rattle.engine.proofs.Places.{Placed, placed-none, filled-more, filled-all}
 use Rattle.lsh256.proofs.load_chain.Statement.{statement}
@@ -15,7 +15,7 @@ abbrev μ-loop : tie.MeasureT-loop
 μ-loop s r₀ l₀ r l = 16 - l
 
 pub load-chain-spec : {M : Type 1} → statement M
-unfolding wordsOf wordBytes lsh256
+unfolding wordsOf wordBytes chainBytes lsh256
 load-chain-spec =
     tie.close
     (tie.spec

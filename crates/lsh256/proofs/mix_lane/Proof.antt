@@ -1,11 +1,12 @@
 -- `lsh256::mix_lane` meets its contract. Assumes nothing.
 use borrow.Author.Needs.{needs}
+use Rattle.lsh.specs.WordSize.{lsh256}
 use Rattle.lsh.specs.Lane.{mixLane}
 use Rattle.lsh256.proofs.mix_lane.Statement.{statement}
 use Rattle.lsh256.proofs.mix_lane.Tie as tie
 
 pub mix-lane-spec : {M : Type 1} → statement M
-unfolding mixLane
+unfolding mixLane lsh256
 mix-lane-spec =
     tie.close
     (tie.spec

@@ -3,19 +3,19 @@ use mathlib.Core.Path.{_≡_, sym, _∙_}
 use Prim.Native.Nat.{_-_}
 use native.Mathlib.Omega.{arith}
 use lib.ListN.{length}
-use Rattle.lsh.specs.WordSize.{lsh256, wordBytes}
+use Rattle.lsh.specs.WordSize.{lsh256, wordBytes, chainBytes}
 use Rattle.engine.proofs.Words.{Stored, stored-none, stored-more, stored-all}
 use Rattle.lsh256.proofs.store_chain.Statement.{statement}
 use Rattle.lsh256.proofs.store_chain.Tie as tie
 
 abbrev Inv-loop : tie.InvT-loop
-Inv-loop d₀ t l₀ d l = Stored 4 t d l × (length d₀ ≡ 64)
+Inv-loop d₀ t l₀ d l = Stored 4 t d l × (length d₀ ≡ chainBytes lsh256)
 
 abbrev μ-loop : tie.MeasureT-loop
 μ-loop d₀ t l₀ d l = 16 - l
 
 pub store-chain-spec : {M : Type 1} → statement M
-unfolding lsh256 wordBytes
+unfolding lsh256 wordBytes chainBytes
 store-chain-spec =
     tie.close
     (tie.spec
@@ -25,7 +25,7 @@ store-chain-spec =
     (λ c. omega arith)
     (λ c. omega arith)
     (λ c. omega arith)
-    (λ c κs. let e : length (c .before .before .loop .d) ≡ 64 = c .before .before .loop .inv .0 .len in omega arith)
+    (λ c κs. let e : length (c .before .before .loop .d) ≡ chainBytes lsh256 = c .before .before .loop .inv .0 .len in omega arith)
     (λ c. omega arith)
     (λ c. omega arith)
     (λ c. (stored-more _ (c .before .before .before .before .before .loop .inv .0) (c .before .before .before .before .loop-test .taken) (c .before .before .store .ensures), c .before .before .before .before .before .loop .inv .1))

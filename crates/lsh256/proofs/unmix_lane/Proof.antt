@@ -1,11 +1,12 @@
 -- `lsh256::unmix_lane` meets its contract. Assumes nothing.
 use borrow.Author.Needs.{needs}
+use Rattle.lsh.specs.WordSize.{lsh256}
 use Rattle.lsh.specs.Lane.{unmixLane}
 use Rattle.lsh256.proofs.unmix_lane.Statement.{statement}
 use Rattle.lsh256.proofs.unmix_lane.Tie as tie
 
 pub unmix-lane-spec : {M : Type 1} → statement M
-unfolding unmixLane
+unfolding unmixLane lsh256
 unmix-lane-spec =
     tie.close
     (tie.spec

@@ -1,0 +1,42 @@
+-- `lsh512::forward_block` meets its contract. Assumes nothing.
+use mathlib.Core.Path.{_≡_, sym, ap, _∙_}
+use Prim.Native.Nat.{_-_}
+use native.Mathlib.Omega.{arith}
+use borrow.Author.Needs.{needs}
+use lib.ListN.{length}
+use Rattle.lsh.specs.WordSize.{lsh512, blockBytes}
+use Rattle.lsh.specs.Bytes.{wordsOf}
+use Rattle.lsh.specs.Step.{addMessage}
+use Rattle.lsh.proofs.Bytes.{length-words}
+use Rattle.engine.specs.Rows.{expandedWords}
+use Rattle.engine.proofs.Rows.{expanded-block}
+use Rattle.engine.proofs.Turns.{Stepped, stepped-none, stepped-more, stepped-all}
+use Rattle.lsh512.proofs.forward_block.Statement.{statement}
+use Rattle.lsh512.proofs.forward_block.Tie as tie
+
+abbrev Inv-loop : tie.InvT-loop
+Inv-loop sc m₀ s r₀ k₀ m r k = Stepped lsh512 m₀ r₀ m r k × (length m₀ ≡ expandedWords lsh512)
+
+abbrev μ-loop : tie.MeasureT-loop
+μ-loop sc m₀ s r₀ k₀ m r k = 14 - k
+
+pub forward-block-spec : {M : Type 1} → statement M
+unfolding lsh512 blockBytes expandedWords
+forward-block-spec =
+    tie.close
+    (tie.spec
+    Inv-loop
+    μ-loop
+    (λ c κs. search needs)
+    (λ c. (stepped-none lsh512 _ _, c .before .before .load-block .kept .0 ∙ c .before .before .before .before .before .before .pre .1))
+    (λ c. omega arith)
+    (λ c κs. (c .before .before .before .before .before .before .before .before .before .pre .0, c .before .before .loop .inv .0 .len ∙ c .before .before .loop .inv .1, omega arith))
+    (λ c. omega arith)
+    (λ c κs. (c .before .before .before .before .loop .inv .0 .len ∙ c .before .before .before .before .loop .inv .1, omega arith))
+    (λ c. omega arith)
+    (λ c. omega arith)
+    (λ c. (stepped-more _ _ (c .before .before .before .before .before .before .before .loop .inv .0) (omega arith) (omega arith) (c .before .before .before .before .two-steps .ensures) (c .before .before .expand-two .ensures), c .before .before .before .before .before .before .before .loop .inv .1))
+    (λ c κs. (c .before .before .loop .inv .0 .len ∙ c .before .before .loop .inv .1, omega arith))
+    (λ c κs. search needs)
+    (λ c. c .before .before .before .before .loop .inv .0 .len ∙ c .before .before .before .before .loop .inv .1 ∙ sym (c .before .before .before .before .before .before .before .before .before .before .before .pre .1))
+    (λ c. stepped-all (wordsOf lsh512 32 _) _ (c .before .before .before .before .loop .inv .0) (omega arith) (expanded-block lsh512 _ _ _ (c .before .before .before .before .before .before .before .load-block .ensures) (length-words lsh512 32 _) (omega arith)) (c .add-message .ensures ∙ ap (addMessage lsh512 _) (c .before .sub-message .ensures))))
