@@ -13,18 +13,18 @@ use Rattle.lsh.specs.Block.{forward, backward}
 unfoldable pub isWordSize : ℕ → Bool
 isWordSize w = eqb w 32 || eqb w 64
 
--- the chain has 2w bytes and the block B
-unfoldable pub haveLengths : WordSize → List ℕ → List ℕ → Bool
-haveLengths z chain block = eqb (length chain) (chainBytes z) && eqb (length block) (blockBytes z)
+-- the lengths are those of a chain and of a block
+unfoldable pub areLengths : WordSize → ℕ → ℕ → Bool
+areLengths z chain block = eqb chain (chainBytes z) && eqb block (blockBytes z)
 
--- 1 if w is neither 32 nor 64, then 4 if either length is wrong, else 0
-unfoldable pub blockAnswer : ℕ → List ℕ → List ℕ → ℕ
-blockAnswer w chain block = cond (not (isWordSize w)) 1 (cond (not (haveLengths (sizeOf w) chain block)) 4 0)
+-- by w and the lengths of chain and block: 1 if w is neither 32 nor 64, then 4 if either length is wrong, else 0
+unfoldable pub blockAnswer : ℕ → ℕ → ℕ → ℕ
+blockAnswer w chain block = cond (not (isWordSize w)) 1 (cond (not (areLengths (sizeOf w) chain block)) 4 0)
 
 -- the chain bytes after a run: replaced if the answer is 0, else as they came
 unfoldable pub runBytes : (WordSize → List ℕ → List ℕ → List ℕ) → ℕ → List ℕ → List ℕ → List ℕ
 runBytes run w chain block =
-    cond (eqb (blockAnswer w chain block) 0)
+    cond (eqb (blockAnswer w (length chain) (length block)) 0)
     (bytesOf (sizeOf w) (run (sizeOf w) (wordsOf (sizeOf w) 32 block) (wordsOf (sizeOf w) 16 chain)))
     chain
 
