@@ -1,15 +1,17 @@
 -- Words and their bytes: each comes back from the other, for every word size.
 -- Assumes nothing.
 use mathlib.Core.Path.{_≡_, refl, sym, ap, ap₂, _∙_, subst}
+use mathlib.Core.Bool.{Bool, true, false}
 use mathlib.Core.List.{List}
 use Prim.Native.Nat.{ℕ, zero, suc, _+_, _*_, _/_, _%_, _^_, _<_}
 use native.Mathlib.Nat.{add-zero, mod-lt, div-one, div-add-mod', div-lt-iff-lt-mul, not-suc-le-zero, le-of-suc-le-suc}
 use native.Mathlib.Omega.{arith}
 use lib.Arith.{lt-one, digits-lt, digits-div, digits-mod}
 use lib.Pow.{pow-add, shr-shr}
+use lib.Dec.{eqb}
 use lib.ListN.{length}
 use Rattle.lsh.specs.Tabulate.{at}
-use Rattle.lsh.specs.WordSize.{WordSize, lsh256, lsh512, wordBytes}
+use Rattle.lsh.specs.WordSize.{WordSize, lsh256, lsh512, sizeOf, wordBytes, chainBytes}
 use Rattle.lsh.specs.Bytes.{wordAt, wordsOf, byteAt, bytesOf}
 use Rattle.lsh.specs.Block.{Chain}
 use Rattle.lsh.proofs.Tabulate.{length-tabulate, at-tabulate, tabulate-ext}
@@ -27,6 +29,14 @@ octets256 = record { some = omega arith; whole = refl }
 pub octets512 : Octets lsh512
 unfolding lsh512 wordBytes
 octets512 = record { some = omega arith; whole = refl }
+
+pub octets : (w : ℕ) → Octets (sizeOf w)
+unfolding sizeOf
+octets w = go (eqb w 64)
+  where
+    go : (b : Bool) → Octets (elim b [ true ↦ lsh512 | false ↦ lsh256 ])
+    go true = octets512
+    go false = octets256
 
 -- each place of a byte string is below 256 (a place past the end reads as 0)
 abbrev pub Bytes : List ℕ → Type 0
@@ -92,6 +102,17 @@ module _ (z : WordSize) (ok : Octets z) where
   words-chain s h =
       tabulate-chain z _
       (λ l lt. subst (λ (n : ℕ). wordAt (wordBytes z) s (l * wordBytes z) < 2 ^ n) (ok .whole) (word-lt (wordBytes z) s (l * wordBytes z) h))
+
+  -- a chain is 16 words of bytes
+  pub chain-bytes : chainBytes z ≡ 16 * wordBytes z
+  unfolding chainBytes
+  chain-bytes = let whole : 8 * wordBytes z ≡ z .bits = ok .whole in omega arith
+
+  pub length-chain : (t : List ℕ) → length t ≡ 16 → length (bytesOf z t) ≡ chainBytes z
+  unfolding bytesOf
+  length-chain t e =
+      length-tabulate (length t * wordBytes z) (λ i. byteAt (at t (i / wordBytes z)) (i % wordBytes z))
+      ∙ ap (λ (n : ℕ). n * wordBytes z) e ∙ sym chain-bytes
 
   -- words back from their bytes
   pub words-of-bytes : (t : List ℕ) → Chain z t → wordsOf z 16 (bytesOf z t) ≡ t

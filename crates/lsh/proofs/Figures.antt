@@ -1,7 +1,9 @@
 -- What the laws need of a word size, for both.
 -- Assumes nothing.
+use mathlib.Core.Bool.{Bool, true, false}
 use Prim.Native.Nat.{ℕ, _%_, _<_, suc-le-suc}
-use Rattle.lsh.specs.WordSize.{WordSize, lsh256, lsh512, alpha, beta, gamma}
+use lib.Dec.{eqb}
+use Rattle.lsh.specs.WordSize.{WordSize, lsh256, lsh512, sizeOf, alpha, beta, gamma}
 use Rattle.lsh.proofs.Tests.{at-upTo}
 
 -- the rotation amounts are below the bits of a word
@@ -27,3 +29,11 @@ amounts512 =
       β = λ j. suc-le-suc (at-upTo 63 (lsh512 .betas) tt (j % 2));
       γ = λ l. suc-le-suc (at-upTo 63 (lsh512 .gammas) tt l);
     }
+
+pub amounts : (w : ℕ) → Amounts (sizeOf w)
+unfolding sizeOf
+amounts w = go (eqb w 64)
+  where
+    go : (b : Bool) → Amounts (elim b [ true ↦ lsh512 | false ↦ lsh256 ])
+    go true = amounts512
+    go false = amounts256
