@@ -72,7 +72,8 @@ module _ (run : WordSize → List ℕ → List ℕ → List ℕ) (w : ℕ) (chai
       → d ≡ bytesOf z (run z (wordsOf z 32 block) (wordsOf z 16 chain))
       → (0 ≡ blockAnswer w (length chain) (length block)) × (d ≡ runBytes run w chain block)
   unfolding runBytes
-  accepted-run e is h =
-      (sym e,
-      h ∙ sym (rw (eq-eqb (blockAnswer w (length chain) (length block)) 0 e)
-      (ap (λ (s : WordSize). bytesOf s (run s (wordsOf s 32 block) (wordsOf s 16 chain))) is)))
+  accepted-run e is h = (
+    sym e,
+    h ∙ sym (rw (eq-eqb (blockAnswer w (length chain) (length block)) 0 e)
+        (ap (λ (s : WordSize). bytesOf s (run s (wordsOf s 32 block) (wordsOf s 16 chain))) is)),
+  )

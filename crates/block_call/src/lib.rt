@@ -6,7 +6,6 @@ ghost use Rattle.lsh.specs.WordSize.{lsh256, lsh512, chainBytes, blockBytes};
 ghost use Rattle.lsh.specs.Bytes.{wordsOf, bytesOf};
 ghost use Rattle.lsh.specs.Block.{forward, backward};
 ghost use Rattle.block_call.specs.BlockCall.{blockAnswer, forwardBytes, backwardBytes};
-
 use lsh256::Lsh256;
 use lsh512::Lsh512;
 

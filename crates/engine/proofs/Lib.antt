@@ -1,6 +1,6 @@
 pub mod Machine
-pub mod Places
 pub mod Words
+pub mod Places
 pub mod Constants
 pub mod Lanes
 pub mod Rows

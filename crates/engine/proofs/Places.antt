@@ -117,6 +117,11 @@ stored-all a {n} {f} {m₀} {m} {i} h le room =
     go q (no from) (no after) =
         h .rest q (λ k hk e. let u : i ≤ n = h .upTo in omega arith) ∙ sym (at-sets-after m₀ a vs q (rw len (omega arith)))
 
+-- a copy of r
+pub copied-all : (a : ℕ) (r : List ℕ) {n : ℕ} {m₀ m : List ℕ} {i : ℕ} → Placed n (λ k. a + k) (at r) m₀ m i → n ≤ i → a + n ≤ length m₀ → length r ≡ n
+    → m ≡ sets m₀ a r
+copied-all a r {n} {m₀} {m} {i} h le room e = stored-all a h le room ∙ ap (sets m₀ a) (tabulate-ext n (at r) r e (λ k lt. refl))
+
 -- stores at 0, 1, .. into the front of a longer list
 pub stored-front : {n : ℕ} {f : ℕ → ℕ} {m₀ m : List ℕ} {i : ℕ} → Placed n (λ k. k) f m₀ m i → n ≤ i → n ≤ length m₀ → m ≡ sets m₀ 0 (tabulate n f)
 stored-front {n} {f} {m₀} {m} {i} h le room =

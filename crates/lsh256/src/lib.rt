@@ -1,6 +1,6 @@
 // LSH-256: whole blocks of 128 bytes run forward and backward on a chain of 16 words of 32 bits.
 ghost use mathlib.Core.Path.{_≡_};
-ghost use Prim.Native.Nat.{_+_, _-_, _/_, _<_};
+ghost use Prim.Native.Nat.{_+_, _-_, _/_, _<_, _≤_};
 ghost use lib.ListN.{length};
 ghost use lib.Seq.{sets};
 ghost use Rattle.lsh.specs.WordSize.{lsh256, chainBytes, blockBytes};
@@ -8,9 +8,10 @@ ghost use Rattle.lsh.specs.StepConstants.{constant, constants};
 ghost use Rattle.lsh.specs.Bytes.{wordsOf, bytesOf};
 ghost use Rattle.lsh.specs.Lane.{lane, mixLane, unmixLane};
 ghost use Rattle.lsh.specs.Step.{addMessage, mix, unmix, permute, unpermute, step, unstep};
+ghost use Rattle.lsh.specs.Expansion.{expansion};
 ghost use Rattle.lsh.specs.Block.{forward, backward, forwards, backwards};
 ghost use Rattle.lsh.specs.Padding.{blocksOf};
-ghost use Rattle.engine.specs.Rows.{expandedWords, row, expandRow, expandRows};
+ghost use Rattle.engine.specs.Rows.{expandedWords, row, four, nextFour, withGroup};
 
 // The figures of the word size.
 pub struct Lsh256 {}
@@ -24,10 +25,10 @@ impl Lsh256 {
     // Ns (5).
     pub const STEPS: usize = 26;
 
-    // Words of the table of step constants, and of the sub-messages M_0 to M_27.
+    // Words of the table of step constants, and of the sub-messages M_0 to M_26.
     const CONSTANTS: usize = 8 * Lsh256::STEPS;
 
-    const EXPANDED: usize = 16 * (Lsh256::STEPS + 2);
+    const EXPANDED: usize = 16 * (Lsh256::STEPS + 1);
 }
 
 // A chain after whole blocks, and how many there were.
@@ -397,21 +398,72 @@ fn load_block(m: &mut [u32], s: &[u8])
     }
 }
 
-// M_(j+2) (8)
-fn expand(m: &mut [u32], j: usize)
-    requires { ⌜ (length (now m) ≡ expandedWords lsh256) × (j < lsh256 .steps) ⌝ }
-    ensures { λ _. ⌜ now (m .exit) ≡ expandRow lsh256 (now (m .entry)) j ⌝ }
+// Four words from place a on.
+fn four(m: &[u32], a: usize) -> [u32; 4]
+    requires { ⌜ a + 4 ≤ length (now m) ⌝ }
+    ensures { λ r. ⌜ r ≡ four (now (m .entry)) a ⌝ }
+{
+    let mut r = [0u32; 4];
+    for i in 0..4 {
+        r[i] = m[a + i];
+    }
+    r
+}
+
+fn put_four(m: &mut [u32], a: usize, r: [u32; 4])
+    requires { ⌜ a + 4 ≤ length (now m) ⌝ }
+    ensures { λ _. ⌜ now (m .exit) ≡ sets (now (m .entry)) a r ⌝ }
+{
+    for i in 0..4 {
+        m[a + i] = r[i];
+    }
+}
+
+// Words 4g to 4g + 3 of a sub-message, from those of the two before it (8).
+fn next_four(g: usize, q: [u32; 4], p: [u32; 4]) -> [u32; 4]
+    requires { ⌜ g < 4 ⌝ }
+    ensures { λ r. ⌜ r ≡ nextFour lsh256 g q p ⌝ }
 {
     let tau = TAU;
-    let a = j * 16;
-    for l in 0..16 {
-        m[a + 32 + l] = word32::add(m[a + 16 + l], m[a + tau[l]]);
+    let a = g * 4;
+    let mut r = [0u32; 4];
+    for i in 0..4 {
+        r[i] = word32::add(q[i], p[tau[a + i] - a]);
     }
+    r
+}
+
+// Words 4g to 4g + 3 of M_2 to M_26. Each four of them are worked out from eight that are still at hand, and the compiler makes one operation of the four.
+fn expand_group(m: &mut [u32], g: usize)
+    requires { ⌜ (length (now m) ≡ expandedWords lsh256) × (g < 4) ⌝ }
+    ensures { λ _. ⌜ now (m .exit) ≡ withGroup lsh256 g (lsh256 .steps - 1) (now (m .entry)) ⌝ }
+{
+    let a = g * 4;
+    let mut p = four(m, a);
+    let mut q = four(m, a + 16);
+    for j in 0..Lsh256::STEPS - 1 {
+        let r = next_four(g, q, p);
+        put_four(m, j * 16 + a + 32, r);
+        p = q;
+        q = r;
+    }
+}
+
+// All the sub-messages of the block s.
+fn expand_block(m: &mut [u32], s: &[u8])
+    requires { ⌜ (length (now m) ≡ expandedWords lsh256) × (length (now s) ≡ blockBytes lsh256) ⌝ }
+    ensures { λ _. ⌜ now (m .exit) ≡ expansion lsh256 (wordsOf lsh256 32 (now (s .entry))) ⌝ }
+{
+    load_block(m, s);
+    expand_group(m, 0);
+    expand_group(m, 1);
+    expand_group(m, 2);
+    expand_group(m, 3);
 }
 
 // M_j
 fn sub_message(m: &[u32], j: usize) -> [u32; 16]
-    requires { ⌜ (length (now m) ≡ expandedWords lsh256) × (j < lsh256 .steps + 2) ⌝ }
+    requires { ⌜ (length (now m) ≡ expandedWords lsh256) × (j ≤ lsh256 .steps) ⌝ }
     ensures { λ r. ⌜ r ≡ row (now (m .entry)) j ⌝ }
 {
     let a = j * 16;
@@ -439,46 +491,25 @@ fn two_unsteps(sc: &[u32; Lsh256::CONSTANTS], m: &[u32], j: usize, t: [u32; 16])
     unstep(sc, j, sub_message(m, j), u)
 }
 
-fn expand_two(m: &mut [u32], j: usize)
-    requires { ⌜ (length (now m) ≡ expandedWords lsh256) × (j + 1 < lsh256 .steps) ⌝ }
-    ensures { λ _. ⌜ now (m .exit) ≡ expandRow lsh256 (expandRow lsh256 (now (m .entry)) j) (j + 1) ⌝ }
-{
-    expand(m, j);
-    expand(m, j + 1);
-}
-
-// M_2 to M_26.
-fn expand_all(m: &mut [u32])
-    requires { ⌜ length (now m) ≡ expandedWords lsh256 ⌝ }
-    ensures { λ _. ⌜ now (m .exit) ≡ expandRows lsh256 (now (m .entry)) (lsh256 .steps - 1) ⌝ }
-{
-    for j in 0..Lsh256::STEPS - 1 {
-        expand(m, j);
-    }
-}
-
-// The block s, on the chain t. m is room for the sub-messages: each is worked out two steps before it is used.
+// The block s on the chain t. m is room for the sub-messages.
 fn forward_block(sc: &[u32; Lsh256::CONSTANTS], m: &mut [u32], s: &[u8], t: [u32; 16]) -> [u32; 16]
     requires { ⌜ (now sc ≡ constants lsh256) × (length (now m) ≡ expandedWords lsh256) × (length (now s) ≡ blockBytes lsh256) ⌝ }
     ensures { λ r. ⌜ r ≡ forward lsh256 (wordsOf lsh256 32 (now (s .entry))) t ⌝ }
 {
-    load_block(m, s);
+    expand_block(m, s);
     let mut r = t;
     for k in 0..Lsh256::STEPS / 2 {
         let u = two_steps(sc, m, k * 2, r);
         r = u;
-        expand_two(m, k * 2);
     }
     add_message(r, sub_message(m, Lsh256::STEPS))
 }
 
-// The steps are taken back from the last, so all the sub-messages are worked out first.
 fn backward_block(sc: &[u32; Lsh256::CONSTANTS], m: &mut [u32], s: &[u8], t: [u32; 16]) -> [u32; 16]
     requires { ⌜ (now sc ≡ constants lsh256) × (length (now m) ≡ expandedWords lsh256) × (length (now s) ≡ blockBytes lsh256) ⌝ }
     ensures { λ r. ⌜ r ≡ backward lsh256 (wordsOf lsh256 32 (now (s .entry))) t ⌝ }
 {
-    load_block(m, s);
-    expand_all(m);
+    expand_block(m, s);
     let mut r = add_message(t, sub_message(m, Lsh256::STEPS));
     let mut k = Lsh256::STEPS / 2;
     while 0 < k {

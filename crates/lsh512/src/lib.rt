@@ -1,6 +1,6 @@
 // LSH-512: whole blocks of 256 bytes run forward and backward on a chain of 16 words of 64 bits.
 ghost use mathlib.Core.Path.{_≡_};
-ghost use Prim.Native.Nat.{_+_, _-_, _/_, _<_};
+ghost use Prim.Native.Nat.{_+_, _-_, _/_, _<_, _≤_};
 ghost use lib.ListN.{length};
 ghost use lib.Seq.{sets};
 ghost use Rattle.lsh.specs.WordSize.{lsh512, chainBytes, blockBytes};
@@ -8,9 +8,10 @@ ghost use Rattle.lsh.specs.StepConstants.{constant, constants};
 ghost use Rattle.lsh.specs.Bytes.{wordsOf, bytesOf};
 ghost use Rattle.lsh.specs.Lane.{lane, mixLane, unmixLane};
 ghost use Rattle.lsh.specs.Step.{addMessage, mix, unmix, permute, unpermute, step, unstep};
+ghost use Rattle.lsh.specs.Expansion.{expansion};
 ghost use Rattle.lsh.specs.Block.{forward, backward, forwards, backwards};
 ghost use Rattle.lsh.specs.Padding.{blocksOf};
-ghost use Rattle.engine.specs.Rows.{expandedWords, row, expandRow, expandRows};
+ghost use Rattle.engine.specs.Rows.{expandedWords, row, four, nextFour, withGroup};
 
 // The figures of the word size.
 pub struct Lsh512 {}
@@ -24,10 +25,10 @@ impl Lsh512 {
     // Ns (5).
     pub const STEPS: usize = 28;
 
-    // Words of the table of step constants, and of the sub-messages M_0 to M_29.
+    // Words of the table of step constants, and of the sub-messages M_0 to M_28.
     const CONSTANTS: usize = 8 * Lsh512::STEPS;
 
-    const EXPANDED: usize = 16 * (Lsh512::STEPS + 2);
+    const EXPANDED: usize = 16 * (Lsh512::STEPS + 1);
 }
 
 // A chain after whole blocks, and how many there were.
@@ -413,21 +414,72 @@ fn load_block(m: &mut [u64], s: &[u8])
     }
 }
 
-// M_(j+2) (8)
-fn expand(m: &mut [u64], j: usize)
-    requires { ⌜ (length (now m) ≡ expandedWords lsh512) × (j < lsh512 .steps) ⌝ }
-    ensures { λ _. ⌜ now (m .exit) ≡ expandRow lsh512 (now (m .entry)) j ⌝ }
+// Four words from place a on.
+fn four(m: &[u64], a: usize) -> [u64; 4]
+    requires { ⌜ a + 4 ≤ length (now m) ⌝ }
+    ensures { λ r. ⌜ r ≡ four (now (m .entry)) a ⌝ }
+{
+    let mut r = [0u64; 4];
+    for i in 0..4 {
+        r[i] = m[a + i];
+    }
+    r
+}
+
+fn put_four(m: &mut [u64], a: usize, r: [u64; 4])
+    requires { ⌜ a + 4 ≤ length (now m) ⌝ }
+    ensures { λ _. ⌜ now (m .exit) ≡ sets (now (m .entry)) a r ⌝ }
+{
+    for i in 0..4 {
+        m[a + i] = r[i];
+    }
+}
+
+// Words 4g to 4g + 3 of a sub-message, from those of the two before it (8).
+fn next_four(g: usize, q: [u64; 4], p: [u64; 4]) -> [u64; 4]
+    requires { ⌜ g < 4 ⌝ }
+    ensures { λ r. ⌜ r ≡ nextFour lsh512 g q p ⌝ }
 {
     let tau = TAU;
-    let a = j * 16;
-    for l in 0..16 {
-        m[a + 32 + l] = word64::add(m[a + 16 + l], m[a + tau[l]]);
+    let a = g * 4;
+    let mut r = [0u64; 4];
+    for i in 0..4 {
+        r[i] = word64::add(q[i], p[tau[a + i] - a]);
     }
+    r
+}
+
+// Words 4g to 4g + 3 of M_2 to M_28. Each four of them are worked out from eight that are still at hand, and the compiler makes one operation of the four.
+fn expand_group(m: &mut [u64], g: usize)
+    requires { ⌜ (length (now m) ≡ expandedWords lsh512) × (g < 4) ⌝ }
+    ensures { λ _. ⌜ now (m .exit) ≡ withGroup lsh512 g (lsh512 .steps - 1) (now (m .entry)) ⌝ }
+{
+    let a = g * 4;
+    let mut p = four(m, a);
+    let mut q = four(m, a + 16);
+    for j in 0..Lsh512::STEPS - 1 {
+        let r = next_four(g, q, p);
+        put_four(m, j * 16 + a + 32, r);
+        p = q;
+        q = r;
+    }
+}
+
+// All the sub-messages of the block s.
+fn expand_block(m: &mut [u64], s: &[u8])
+    requires { ⌜ (length (now m) ≡ expandedWords lsh512) × (length (now s) ≡ blockBytes lsh512) ⌝ }
+    ensures { λ _. ⌜ now (m .exit) ≡ expansion lsh512 (wordsOf lsh512 32 (now (s .entry))) ⌝ }
+{
+    load_block(m, s);
+    expand_group(m, 0);
+    expand_group(m, 1);
+    expand_group(m, 2);
+    expand_group(m, 3);
 }
 
 // M_j
 fn sub_message(m: &[u64], j: usize) -> [u64; 16]
-    requires { ⌜ (length (now m) ≡ expandedWords lsh512) × (j < lsh512 .steps + 2) ⌝ }
+    requires { ⌜ (length (now m) ≡ expandedWords lsh512) × (j ≤ lsh512 .steps) ⌝ }
     ensures { λ r. ⌜ r ≡ row (now (m .entry)) j ⌝ }
 {
     let a = j * 16;
@@ -455,46 +507,25 @@ fn two_unsteps(sc: &[u64; Lsh512::CONSTANTS], m: &[u64], j: usize, t: [u64; 16])
     unstep(sc, j, sub_message(m, j), u)
 }
 
-fn expand_two(m: &mut [u64], j: usize)
-    requires { ⌜ (length (now m) ≡ expandedWords lsh512) × (j + 1 < lsh512 .steps) ⌝ }
-    ensures { λ _. ⌜ now (m .exit) ≡ expandRow lsh512 (expandRow lsh512 (now (m .entry)) j) (j + 1) ⌝ }
-{
-    expand(m, j);
-    expand(m, j + 1);
-}
-
-// M_2 to M_28.
-fn expand_all(m: &mut [u64])
-    requires { ⌜ length (now m) ≡ expandedWords lsh512 ⌝ }
-    ensures { λ _. ⌜ now (m .exit) ≡ expandRows lsh512 (now (m .entry)) (lsh512 .steps - 1) ⌝ }
-{
-    for j in 0..Lsh512::STEPS - 1 {
-        expand(m, j);
-    }
-}
-
-// The block s, on the chain t. m is room for the sub-messages: each is worked out two steps before it is used.
+// The block s on the chain t. m is room for the sub-messages.
 fn forward_block(sc: &[u64; Lsh512::CONSTANTS], m: &mut [u64], s: &[u8], t: [u64; 16]) -> [u64; 16]
     requires { ⌜ (now sc ≡ constants lsh512) × (length (now m) ≡ expandedWords lsh512) × (length (now s) ≡ blockBytes lsh512) ⌝ }
     ensures { λ r. ⌜ r ≡ forward lsh512 (wordsOf lsh512 32 (now (s .entry))) t ⌝ }
 {
-    load_block(m, s);
+    expand_block(m, s);
     let mut r = t;
     for k in 0..Lsh512::STEPS / 2 {
         let u = two_steps(sc, m, k * 2, r);
         r = u;
-        expand_two(m, k * 2);
     }
     add_message(r, sub_message(m, Lsh512::STEPS))
 }
 
-// The steps are taken back from the last, so all the sub-messages are worked out first.
 fn backward_block(sc: &[u64; Lsh512::CONSTANTS], m: &mut [u64], s: &[u8], t: [u64; 16]) -> [u64; 16]
     requires { ⌜ (now sc ≡ constants lsh512) × (length (now m) ≡ expandedWords lsh512) × (length (now s) ≡ blockBytes lsh512) ⌝ }
     ensures { λ r. ⌜ r ≡ backward lsh512 (wordsOf lsh512 32 (now (s .entry))) t ⌝ }
 {
-    load_block(m, s);
-    expand_all(m);
+    expand_block(m, s);
     let mut r = add_message(t, sub_message(m, Lsh512::STEPS));
     let mut k = Lsh512::STEPS / 2;
     while 0 < k {

@@ -1,5 +1,5 @@
 -- `lsh512::forward_block` meets its contract. Assumes nothing.
-use mathlib.Core.Path.{_≡_, sym, ap, _∙_}
+use mathlib.Core.Path.{_≡_, ap, _∙_}
 use Prim.Native.Nat.{_-_}
 use native.Mathlib.Omega.{arith}
 use borrow.Author.Needs.{needs}
@@ -9,16 +9,16 @@ use Rattle.lsh.specs.Bytes.{wordsOf}
 use Rattle.lsh.specs.Step.{addMessage}
 use Rattle.lsh.proofs.Bytes.{length-words}
 use Rattle.engine.specs.Rows.{expandedWords}
-use Rattle.engine.proofs.Rows.{expanded-block}
+use Rattle.engine.proofs.Rows.{Expanded, expanded}
 use Rattle.engine.proofs.Turns.{Stepped, stepped-none, stepped-more, stepped-all}
 use Rattle.lsh512.proofs.forward_block.Statement.{statement}
 use Rattle.lsh512.proofs.forward_block.Tie as tie
 
 abbrev Inv-loop : tie.InvT-loop
-Inv-loop sc m₀ s r₀ k₀ m r k = Stepped lsh512 m₀ r₀ m r k × (length m₀ ≡ expandedWords lsh512)
+Inv-loop sc m s r₀ k₀ r k = Stepped lsh512 (wordsOf lsh512 32 s) r₀ r k × Expanded lsh512 (wordsOf lsh512 32 s) m × (length m ≡ expandedWords lsh512)
 
 abbrev μ-loop : tie.MeasureT-loop
-μ-loop sc m₀ s r₀ k₀ m r k = 14 - k
+μ-loop sc m s r₀ k₀ r k = 14 - k
 
 pub forward-block-spec : {M : Type 1} → statement M
 unfolding lsh512 blockBytes expandedWords
@@ -28,15 +28,13 @@ forward-block-spec =
     Inv-loop
     μ-loop
     (λ c κs. search needs)
-    (λ c. (stepped-none lsh512 _ _, c .before .before .load-block .kept .0 ∙ c .before .before .before .before .before .before .pre .1))
+    (λ c. (stepped-none lsh512 _ _, expanded lsh512 _ _ (c .before .before .expand-block .ensures) (length-words lsh512 32 _), c .before .before .expand-block .kept .0 ∙ c .before .before .before .before .before .before .pre .1))
     (λ c. omega arith)
-    (λ c κs. (c .before .before .before .before .before .before .before .before .before .pre .0, c .before .before .loop .inv .0 .len ∙ c .before .before .loop .inv .1, omega arith))
-    (λ c. omega arith)
-    (λ c κs. (c .before .before .before .before .loop .inv .0 .len ∙ c .before .before .before .before .loop .inv .1, omega arith))
+    (λ c κs. (c .before .before .before .before .before .before .before .before .before .pre .0, c .before .before .loop .inv .2, omega arith))
     (λ c. omega arith)
     (λ c. omega arith)
-    (λ c. (stepped-more _ _ (c .before .before .before .before .before .before .before .loop .inv .0) (omega arith) (omega arith) (c .before .before .before .before .two-steps .ensures) (c .before .before .expand-two .ensures), c .before .before .before .before .before .before .before .loop .inv .1))
-    (λ c κs. (c .before .before .loop .inv .0 .len ∙ c .before .before .loop .inv .1, omega arith))
+    (λ c. (stepped-more (c .before .before .before .loop .inv .1) _ (c .before .before .before .loop .inv .0) (omega arith) (c .two-steps .ensures), c .before .before .before .loop .inv .1, c .before .before .before .loop .inv .2))
+    (λ c κs. (c .before .before .loop .inv .2, omega arith))
     (λ c κs. search needs)
-    (λ c. c .before .before .before .before .loop .inv .0 .len ∙ c .before .before .before .before .loop .inv .1 ∙ sym (c .before .before .before .before .before .before .before .before .before .before .before .pre .1))
-    (λ c. stepped-all (wordsOf lsh512 32 _) _ (c .before .before .before .before .loop .inv .0) (omega arith) (expanded-block lsh512 _ _ _ (c .before .before .before .before .before .before .before .load-block .ensures) (length-words lsh512 32 _) (omega arith)) (c .add-message .ensures ∙ ap (addMessage lsh512 _) (c .before .sub-message .ensures))))
+    (λ c. c .before .before .before .before .before .before .before .expand-block .kept .0)
+    (λ c. stepped-all (c .before .before .before .before .loop .inv .1) _ (c .before .before .before .before .loop .inv .0) (omega arith) (c .add-message .ensures ∙ ap (addMessage lsh512 _) (c .before .sub-message .ensures))))
