@@ -26,23 +26,27 @@ pub fn peers<W: Word>() -> [Peer; 3] {
 }
 
 mod module {
+    pub type Run = unsafe extern "C" fn(chain: *mut u8, chain_len: usize, blocks: *const u8, blocks_len: usize) -> u32;
+
     extern "C" {
-        pub fn bench_forward(w: u64, chain: *mut u8, chain_len: usize, blocks: *const u8, blocks_len: usize) -> u32;
-        pub fn bench_backward(w: u64, chain: *mut u8, chain_len: usize, blocks: *const u8, blocks_len: usize) -> u32;
+        pub fn bench_forward256(chain: *mut u8, chain_len: usize, blocks: *const u8, blocks_len: usize) -> u32;
+        pub fn bench_backward256(chain: *mut u8, chain_len: usize, blocks: *const u8, blocks_len: usize) -> u32;
+        pub fn bench_forward512(chain: *mut u8, chain_len: usize, blocks: *const u8, blocks_len: usize) -> u32;
+        pub fn bench_backward512(chain: *mut u8, chain_len: usize, blocks: *const u8, blocks_len: usize) -> u32;
     }
 }
 
 fn module_forward<W: Word>(chain: &mut [u8], message: &[u8]) {
-    let w = W::BITS as u64;
-    // SAFETY: each pointer comes with the length of its slice, and the slices cannot overlap.
-    let answer = unsafe { module::bench_forward(w, chain.as_mut_ptr(), chain.len(), message.as_ptr(), message.len()) };
-    assert_eq!(answer, ACCEPTED);
+    module_run(if W::BITS == 32 { module::bench_forward256 } else { module::bench_forward512 }, chain, message);
 }
 
 fn module_backward<W: Word>(chain: &mut [u8], message: &[u8]) {
-    let w = W::BITS as u64;
-    // SAFETY: as in `module_forward`.
-    let answer = unsafe { module::bench_backward(w, chain.as_mut_ptr(), chain.len(), message.as_ptr(), message.len()) };
+    module_run(if W::BITS == 32 { module::bench_backward256 } else { module::bench_backward512 }, chain, message);
+}
+
+fn module_run(run: module::Run, chain: &mut [u8], message: &[u8]) {
+    // SAFETY: each pointer comes with the length of its slice, and the slices cannot overlap.
+    let answer = unsafe { run(chain.as_mut_ptr(), chain.len(), message.as_ptr(), message.len()) };
     assert_eq!(answer, ACCEPTED);
 }
 
