@@ -14,9 +14,9 @@ pub extern "C" fn bench_forward256(chain: &mut [u8], blocks: &[u8]) -> u32
         return 4;
     }
     let t = lsh256::load_chain(chain);
-    let r = lsh256::forward(t, blocks);
-    let u = r.chain;
-    lsh256::store_chain(chain, u);
+    let run = lsh256::forward(t, blocks);
+    let reached = run.chain;
+    lsh256::store_chain(chain, reached);
     0
 }
 
@@ -28,9 +28,9 @@ pub extern "C" fn bench_backward256(chain: &mut [u8], blocks: &[u8]) -> u32
         return 4;
     }
     let t = lsh256::load_chain(chain);
-    let r = lsh256::backward(t, blocks);
-    let u = r.chain;
-    lsh256::store_chain(chain, u);
+    let run = lsh256::backward(t, blocks);
+    let reached = run.chain;
+    lsh256::store_chain(chain, reached);
     0
 }
 
@@ -42,9 +42,9 @@ pub extern "C" fn bench_forward512(chain: &mut [u8], blocks: &[u8]) -> u32
         return 4;
     }
     let t = lsh512::load_chain(chain);
-    let r = lsh512::forward(t, blocks);
-    let u = r.chain;
-    lsh512::store_chain(chain, u);
+    let run = lsh512::forward(t, blocks);
+    let reached = run.chain;
+    lsh512::store_chain(chain, reached);
     0
 }
 
@@ -56,8 +56,8 @@ pub extern "C" fn bench_backward512(chain: &mut [u8], blocks: &[u8]) -> u32
         return 4;
     }
     let t = lsh512::load_chain(chain);
-    let r = lsh512::backward(t, blocks);
-    let u = r.chain;
-    lsh512::store_chain(chain, u);
+    let run = lsh512::backward(t, blocks);
+    let reached = run.chain;
+    lsh512::store_chain(chain, reached);
     0
 }

@@ -70,9 +70,9 @@ fn forward256(chain: &mut [u8], block: &[u8])
     ensures { λ _. ⌜ now (chain .exit) ≡ bytesOf lsh256 (forward lsh256 (wordsOf lsh256 32 (now (block .entry))) (wordsOf lsh256 16 (now (chain .entry)))) ⌝ }
 {
     let t = lsh256::load_chain(chain);
-    let r = lsh256::forward(t, block);
-    let u = r.chain;
-    lsh256::store_chain(chain, u);
+    let run = lsh256::forward(t, block);
+    let ahead = run.chain;
+    lsh256::store_chain(chain, ahead);
 }
 
 fn backward256(chain: &mut [u8], block: &[u8])
@@ -80,9 +80,9 @@ fn backward256(chain: &mut [u8], block: &[u8])
     ensures { λ _. ⌜ now (chain .exit) ≡ bytesOf lsh256 (backward lsh256 (wordsOf lsh256 32 (now (block .entry))) (wordsOf lsh256 16 (now (chain .entry)))) ⌝ }
 {
     let t = lsh256::load_chain(chain);
-    let r = lsh256::backward(t, block);
-    let u = r.chain;
-    lsh256::store_chain(chain, u);
+    let run = lsh256::backward(t, block);
+    let before = run.chain;
+    lsh256::store_chain(chain, before);
 }
 
 fn forward512(chain: &mut [u8], block: &[u8])
@@ -90,9 +90,9 @@ fn forward512(chain: &mut [u8], block: &[u8])
     ensures { λ _. ⌜ now (chain .exit) ≡ bytesOf lsh512 (forward lsh512 (wordsOf lsh512 32 (now (block .entry))) (wordsOf lsh512 16 (now (chain .entry)))) ⌝ }
 {
     let t = lsh512::load_chain(chain);
-    let r = lsh512::forward(t, block);
-    let u = r.chain;
-    lsh512::store_chain(chain, u);
+    let run = lsh512::forward(t, block);
+    let ahead = run.chain;
+    lsh512::store_chain(chain, ahead);
 }
 
 fn backward512(chain: &mut [u8], block: &[u8])
@@ -100,7 +100,7 @@ fn backward512(chain: &mut [u8], block: &[u8])
     ensures { λ _. ⌜ now (chain .exit) ≡ bytesOf lsh512 (backward lsh512 (wordsOf lsh512 32 (now (block .entry))) (wordsOf lsh512 16 (now (chain .entry)))) ⌝ }
 {
     let t = lsh512::load_chain(chain);
-    let r = lsh512::backward(t, block);
-    let u = r.chain;
-    lsh512::store_chain(chain, u);
+    let run = lsh512::backward(t, block);
+    let before = run.chain;
+    lsh512::store_chain(chain, before);
 }

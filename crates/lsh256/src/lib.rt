@@ -537,8 +537,8 @@ pub fn forward(t: [u32; 16], s: &[u8]) -> Run
     while count < n {
         let a = count * Lsh256::BLOCK;
         let e = a + Lsh256::BLOCK;
-        let u = forward_block(&sc, &mut m, &s[a..e], c);
-        c = u;
+        let next = forward_block(&sc, &mut m, &s[a..e], c);
+        c = next;
         count += 1;
     }
     Run {
@@ -560,8 +560,8 @@ pub fn backward(t: [u32; 16], s: &[u8]) -> Run
         left -= 1;
         let a = left * Lsh256::BLOCK;
         let e = a + Lsh256::BLOCK;
-        let u = backward_block(&sc, &mut m, &s[a..e], c);
-        c = u;
+        let before = backward_block(&sc, &mut m, &s[a..e], c);
+        c = before;
         count += 1;
     }
     Run {

@@ -553,8 +553,8 @@ pub fn forward(t: [u64; 16], s: &[u8]) -> Run
     while count < n {
         let a = count * Lsh512::BLOCK;
         let e = a + Lsh512::BLOCK;
-        let u = forward_block(&sc, &mut m, &s[a..e], c);
-        c = u;
+        let next = forward_block(&sc, &mut m, &s[a..e], c);
+        c = next;
         count += 1;
     }
     Run {
@@ -576,8 +576,8 @@ pub fn backward(t: [u64; 16], s: &[u8]) -> Run
         left -= 1;
         let a = left * Lsh512::BLOCK;
         let e = a + Lsh512::BLOCK;
-        let u = backward_block(&sc, &mut m, &s[a..e], c);
-        c = u;
+        let before = backward_block(&sc, &mut m, &s[a..e], c);
+        c = before;
         count += 1;
     }
     Run {
