@@ -1,21 +1,20 @@
 -- What an answer says of the word size and the lengths, and the chain bytes after each answer.
 -- Assumes nothing.
 use mathlib.Core.Path.{_≡_, refl, sym, ap, _∙_}
-use mathlib.Core.Bool.{Bool, true, false, not, _&&_, _||_, cond, false≢true}
+use mathlib.Core.Bool.{Bool, true, false, not, _&&_, cond, false≢true}
 use mathlib.Core.List.{List}
-use mathlib.Core.Logic.{_⊎_, inl, inr, ⊎-elim}
 use Prim.Native.Nat.{ℕ}
 use native.Mathlib.Omega.{arith}
 use borrow.Author.Tests.{eqb-true, eq-eqb, ne-eqb}
 use lib.Dec.{eqb}
 use lib.ListN.{length}
-use Rattle.lsh.specs.WordSize.{WordSize, lsh256, lsh512, sizeOf, chainBytes, blockBytes}
+use Rattle.lsh.specs.WordSize.{WordSize, isWordSize, sizeOf, chainBytes, blockBytes}
 use Rattle.lsh.specs.Bytes.{wordsOf, bytesOf}
-use Rattle.block_call.specs.BlockCall.{isWordSize, areLengths, blockAnswer, runBytes}
+use Rattle.block_call.specs.BlockCall.{areLengths, blockAnswer, runBytes}
 
--- an accepted call: w is 32 or 64, and the lengths are right
+-- an accepted call: w is a word size, and the lengths are right
 pub record Accepted (w c b : ℕ) : Type 0 where
-  pub size : (w ≡ 32) ⊎ (w ≡ 64)
+  pub size : isWordSize w ≡ true
   pub chain : c ≡ chainBytes (sizeOf w)
   pub block : b ≡ blockBytes (sizeOf w)
 
@@ -23,40 +22,26 @@ and-true : (p q : Bool) → p && q ≡ true → (p ≡ true) × (q ≡ true)
 and-true true q e = (refl, e)
 and-true false q e = absurd (false≢true e)
 
-or-true : (p q : Bool) → p || q ≡ true → (p ≡ true) ⊎ (q ≡ true)
-or-true true q e = inl refl
-or-true false q e = inr e
-
-module _ (w chain block : ℕ) where
-  tests : blockAnswer w chain block ≡ 0 → (isWordSize w ≡ true) × (areLengths (sizeOf w) chain block ≡ true)
+module _ (w c b : ℕ) where
+  tests : blockAnswer w c b ≡ 0 → (isWordSize w ≡ true) × (areLengths (sizeOf w) c b ≡ true)
   unfolding blockAnswer
-  tests e = go (isWordSize w) (areLengths (sizeOf w) chain block) e
+  tests e = go (isWordSize w) (areLengths (sizeOf w) c b) e
     where
       go : (p q : Bool) → _≡_ {A = ℕ} (cond (not p) 1 (cond (not q) 4 0)) 0 → (p ≡ true) × (q ≡ true)
       go true true e = (refl, refl)
       go true false e = absurd (omega arith)
       go false q e = absurd (omega arith)
 
-  pub accepted : blockAnswer w chain block ≡ 0 → Accepted w chain block
-  unfolding isWordSize areLengths
+  pub accepted : blockAnswer w c b ≡ 0 → Accepted w c b
+  unfolding areLengths
   accepted e =
-      let t : (isWordSize w ≡ true) × (areLengths (sizeOf w) chain block ≡ true) = tests e in
-      let lengths : (eqb chain (chainBytes (sizeOf w)) ≡ true) × (eqb block (blockBytes (sizeOf w)) ≡ true) =
-      and-true (eqb chain (chainBytes (sizeOf w))) (eqb block (blockBytes (sizeOf w))) (t .1) in
+      let lengths : (eqb c (chainBytes (sizeOf w)) ≡ true) × (eqb b (blockBytes (sizeOf w)) ≡ true) =
+      and-true (eqb c (chainBytes (sizeOf w))) (eqb b (blockBytes (sizeOf w))) (tests e .1) in
       record {
-        size = ⊎-elim (λ p. inl (eqb-true w 32 p)) (λ p. inr (eqb-true w 64 p)) (or-true (eqb w 32) (eqb w 64) (t .0));
-        chain = eqb-true chain (chainBytes (sizeOf w)) (lengths .0);
-        block = eqb-true block (blockBytes (sizeOf w)) (lengths .1);
+        size = tests e .0;
+        chain = eqb-true c (chainBytes (sizeOf w)) (lengths .0);
+        block = eqb-true b (blockBytes (sizeOf w)) (lengths .1);
       }
-
--- the figures of an accepted w
-pub size-32 : {w : ℕ} → w ≡ 32 → sizeOf w ≡ lsh256
-unfolding sizeOf
-size-32 e = ap sizeOf e
-
-pub size-64 : (w c b : ℕ) → blockAnswer w c b ≡ 0 → (w ≡ 32 → ⊥) → sizeOf w ≡ lsh512
-unfolding sizeOf
-size-64 w c b e other = ⊎-elim (λ p. absurd (other p)) (λ p. ap sizeOf p) (accepted w c b e .size)
 
 pub lengths : (w c b : ℕ) {z : WordSize} → blockAnswer w c b ≡ 0 → sizeOf w ≡ z → (c ≡ chainBytes z) × (b ≡ blockBytes z)
 lengths w c b e is = (accepted w c b e .chain ∙ ap chainBytes is, accepted w c b e .block ∙ ap blockBytes is)

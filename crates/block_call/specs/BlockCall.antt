@@ -1,17 +1,13 @@
 -- Block forward and Block backward of document 01 ("The record and its calls"): the answer, and the chain bytes after the call.
 -- Assumes nothing.
-use mathlib.Core.Bool.{Bool, not, _&&_, _||_, cond}
+use mathlib.Core.Bool.{Bool, not, _&&_, cond}
 use mathlib.Core.List.{List}
 use Prim.Native.Nat.{ℕ}
 use lib.Dec.{eqb}
 use lib.ListN.{length}
-use Rattle.lsh.specs.WordSize.{WordSize, sizeOf, chainBytes, blockBytes}
+use Rattle.lsh.specs.WordSize.{WordSize, isWordSize, sizeOf, chainBytes, blockBytes}
 use Rattle.lsh.specs.Bytes.{wordsOf, bytesOf}
 use Rattle.lsh.specs.Block.{forward, backward}
-
--- w is 32 or 64
-unfoldable pub isWordSize : ℕ → Bool
-isWordSize w = eqb w 32 || eqb w 64
 
 -- the lengths are those of a chain and of a block
 unfoldable pub areLengths : WordSize → ℕ → ℕ → Bool

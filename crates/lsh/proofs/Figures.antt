@@ -1,9 +1,12 @@
 -- What the laws need of a word size, for both.
 -- Assumes nothing.
+use mathlib.Core.Path.{_≡_, refl, sym, ap, subst}
 use mathlib.Core.Bool.{Bool, true, false}
-use Prim.Native.Nat.{ℕ, _%_, _<_, suc-le-suc}
+use Prim.Native.Nat.{ℕ, _*_, _%_, _≤_, _<_, suc-le-suc}
+use native.Mathlib.Omega.{arith}
+use borrow.Author.Tests.{eqb-true}
 use lib.Dec.{eqb}
-use Rattle.lsh.specs.WordSize.{WordSize, lsh256, lsh512, sizeOf, alpha, beta, gamma}
+use Rattle.lsh.specs.WordSize.{WordSize, lsh256, lsh512, isWordSize, sizeOf, blockBytes, alpha, beta, gamma}
 use Rattle.lsh.proofs.Tests.{at-upTo}
 
 -- the rotation amounts are below the bits of a word
@@ -37,3 +40,37 @@ amounts w = go (eqb w 64)
     go : (b : Bool) → Amounts (elim b [ true ↦ lsh512 | false ↦ lsh256 ])
     go true = amounts512
     go false = amounts256
+
+-- what holds of 32 and of 64 holds of every word size
+pub by-size : (P : ℕ → Type 0) → P 32 → P 64 → (w : ℕ) → isWordSize w ≡ true → P w
+unfolding isWordSize
+by-size P at32 at64 w e = go (eqb w 32) refl
+  where
+    go : (b : Bool) → eqb w 32 ≡ b → P w
+    go true is = subst P (sym (eqb-true w 32 is)) at32
+    go false is = subst P (sym (eqb-true w 64 (rw is at e))) at64
+
+pub size-32 : {w : ℕ} → w ≡ 32 → sizeOf w ≡ lsh256
+unfolding sizeOf
+size-32 e = ap sizeOf e
+
+pub size-64 : (w : ℕ) → isWordSize w ≡ true → (w ≡ 32 → ⊥) → sizeOf w ≡ lsh512
+unfolding sizeOf
+size-64 = by-size (λ (w : ℕ). (w ≡ 32 → ⊥) → sizeOf w ≡ lsh512) (λ other. absurd (other refl)) (λ other. refl)
+
+pub bits-are : (w : ℕ) → isWordSize w ≡ true → sizeOf w .bits ≡ w
+unfolding sizeOf lsh256 lsh512
+bits-are = by-size (λ (w : ℕ). sizeOf w .bits ≡ w) refl refl
+
+pub block-is : (w : ℕ) → isWordSize w ≡ true → blockBytes (sizeOf w) ≡ 4 * w
+unfolding blockBytes
+block-is w e = ap (λ (n : ℕ). 4 * n) (bits-are w e)
+
+-- a block has some bytes, and at most 256
+pub block-some : (w : ℕ) → isWordSize w ≡ true → 0 < blockBytes (sizeOf w)
+unfolding blockBytes sizeOf lsh256 lsh512
+block-some = by-size (λ (w : ℕ). 0 < blockBytes (sizeOf w)) (omega arith) (omega arith)
+
+pub block-most : (w : ℕ) → isWordSize w ≡ true → blockBytes (sizeOf w) ≤ 256
+unfolding blockBytes sizeOf lsh256 lsh512
+block-most = by-size (λ (w : ℕ). blockBytes (sizeOf w) ≤ 256) (omega arith) (omega arith)

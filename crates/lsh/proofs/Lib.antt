@@ -9,5 +9,6 @@ pub mod Block
 pub mod Blocks
 pub mod Bytes
 pub mod Padding
+pub mod Opening
 pub mod Bench
 pub mod OpeningChains

@@ -28,3 +28,7 @@ firstBlocks z (suc k) s = wordsOf z 32 (take (blockBytes z) s) ∷ firstBlocks z
 -- all its whole blocks
 unfoldable pub blocksOf : WordSize → List ℕ → List (List ℕ)
 blocksOf z s = firstBlocks z (length s / blockBytes z) s
+
+-- and what is left after them
+unfoldable pub restOf : WordSize → List ℕ → List ℕ
+restOf z s = drop (length s / blockBytes z * blockBytes z) s

@@ -1,6 +1,6 @@
 -- The figures of a word size, each named once, and the permutations that both word sizes share.
 -- Assumes nothing.
-use mathlib.Core.Bool.{Bool, true, false}
+use mathlib.Core.Bool.{Bool, true, false, _||_}
 use mathlib.Core.List.{List, [], _∷_}
 use Prim.Native.Nat.{ℕ, suc, _*_, _/_, _%_}
 use lib.Dec.{eqb}
@@ -41,6 +41,10 @@ lsh512 =
           0x97884283c938982a ∷ 0xba1fca93533e2355 ∷ 0xc519a2e87aeb1c03 ∷ 0x9a0fc95462af17b1
           ∷ 0xfc3dda8ab019a82b ∷ 0x02825d079a895407 ∷ 0x79f2d0a7ee06a6f7 ∷ 0xd76d15eed9fdf5fe ∷ [];
     }
+
+-- w is 32 or 64
+unfoldable pub isWordSize : ℕ → Bool
+isWordSize w = eqb w 32 || eqb w 64
 
 -- by w: 64 is LSH-512, and every other number LSH-256 (calls refuse a w that is neither 32 nor 64)
 unfoldable pub sizeOf : ℕ → WordSize

@@ -2,8 +2,8 @@
 use mathlib.Core.Bool.{_||_}
 use borrow.Author.Needs.{needs}
 use borrow.Author.Tests.{ne-eqb}
-use Rattle.lsh.specs.WordSize.{lsh256, lsh512, sizeOf, chainBytes, blockBytes}
-use Rattle.block_call.specs.BlockCall.{isWordSize, areLengths, blockAnswer}
+use Rattle.lsh.specs.WordSize.{lsh256, lsh512, isWordSize, sizeOf, chainBytes, blockBytes}
+use Rattle.block_call.specs.BlockCall.{areLengths, blockAnswer}
 use Rattle.block_call.proofs.answer.Statement.{statement}
 use Rattle.block_call.proofs.answer.Tie as tie
 

@@ -18,4 +18,4 @@ forward256-spec =
     (λ c κs. search needs)
     (λ c κs. c .before .before .before .before .before .before .before .pre .0)
     (λ c. search needs)
-    (λ c. c .before .before .store-chain .ensures ∙ ap (bytesOf lsh256) (c .before .before .before .before .before .forward .ensures .0 ∙ ap₂ (forwards lsh256) (one-block lsh256 _ (omega arith) (c .before .before .before .before .before .before .before .before .before .before .pre .1)) (c .before .before .before .before .before .before .load-chain .ensures))))
+    (λ c. c .before .before .store-chain .ensures ∙ ap (bytesOf lsh256) (c .before .before .before .before .before .forward .ensures .0 ∙ ap₂ (forwards lsh256) (one-block lsh256 (omega arith) _ (c .before .before .before .before .before .before .before .before .before .before .pre .1)) (c .before .before .before .before .before .before .load-chain .ensures))))

@@ -18,4 +18,4 @@ forward512-spec =
     (λ c κs. search needs)
     (λ c κs. c .before .before .before .before .before .before .before .pre .0)
     (λ c. search needs)
-    (λ c. c .before .before .store-chain .ensures ∙ ap (bytesOf lsh512) (c .before .before .before .before .before .forward .ensures .0 ∙ ap₂ (forwards lsh512) (one-block lsh512 _ (omega arith) (c .before .before .before .before .before .before .before .before .before .before .pre .1)) (c .before .before .before .before .before .before .load-chain .ensures))))
+    (λ c. c .before .before .store-chain .ensures ∙ ap (bytesOf lsh512) (c .before .before .before .before .before .forward .ensures .0 ∙ ap₂ (forwards lsh512) (one-block lsh512 (omega arith) _ (c .before .before .before .before .before .before .before .before .before .before .pre .1)) (c .before .before .before .before .before .before .load-chain .ensures))))

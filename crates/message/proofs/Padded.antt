@@ -1,0 +1,44 @@
+-- The bytes of a padded message that is given as whole bytes and a last byte, of which the first e bits count.
+-- Assumes nothing.
+use mathlib.Core.Path.{_≡_, ap, _∙_}
+use mathlib.Core.Bool.{Bool, true, false}
+use mathlib.Core.List.{List, _∷_, _++_, append-assoc}
+use Prim.Native.Nat.{ℕ, _+_, _-_, _*_, _/_, _%_, _^_, _≤_, _<_}
+use native.Mathlib.Nat.{mod-lt, div-add-mod'}
+use native.Mathlib.Omega.{arith}
+use lib.Arith.{digits-div}
+use lib.ListN.{length, take, replicate, length-append}
+use lib.Seq.{length-take-le}
+use Rattle.lsh.specs.WordSize.{WordSize, blockBytes}
+use Rattle.lsh.specs.Bits.{bitsOfByte, bitsOf, bytesOfBits}
+use Rattle.lsh.specs.Padding.{blockBits, blockCount, padded}
+use Rattle.lsh.proofs.Bytes.{Bytes}
+use Rattle.message.proofs.Bits.{length-bits, bytes-of-bits, bytes-last}
+
+-- the zeros after the bit 1: those that end its byte, and whole bytes to the end of the block
+zero-count : (z : WordSize) (m : List Bool) (L e : ℕ) → 0 < blockBytes z → length m ≡ 8 * L + e → e ≤ 7
+    → blockBits z * blockCount z m - (length m + 1) ≡ 7 - e + 8 * (blockBytes z - 1 - L % blockBytes z)
+unfolding blockBits blockCount
+zero-count z m L e pos len he =
+    let B : ℕ = blockBytes z in
+    let q : ℕ = L / B in
+    let r : ℕ = L % B in
+    let whole : q * B + r ≡ L = div-add-mod' L B in
+    let inside : r < B = mod-lt L pos in
+    let blocks : length m + 1 + (8 * B - 1) ≡ (q + 1) * (8 * B) + (8 * r + e) = omega arith in
+    let count : (length m + 1 + (8 * B - 1)) / (8 * B) ≡ q + 1 =
+    ap (λ (n : ℕ). n / (8 * B)) blocks ∙ digits-div (q + 1) (omega arith) in
+    rw count (omega arith)
+
+pub padded-bytes : (z : WordSize) (s : List ℕ) (last e : ℕ) → 0 < blockBytes z → Bytes s → last < 256 → e ≤ 7 → last % 2 ^ (8 - e) ≡ 0
+    → bytesOfBits (padded z (bitsOf s ++ take e (bitsOfByte last)))
+    ≡ s ++ (last + 2 ^ (7 - e)) ∷ replicate (blockBytes z - 1 - length s % blockBytes z) 0
+unfolding padded bitsOfByte
+padded-bytes z s last e pos bytes h he low =
+    let front : List Bool = take e (bitsOfByte last) in
+    let len : length (bitsOf s ++ front) ≡ 8 * length s + e =
+    omega (arith, length-append (bitsOf s) front, length-bits s, length-take-le e (bitsOfByte last) (omega arith)) in
+    let j : ℕ = blockBytes z - 1 - length s % blockBytes z in
+    ap (λ (k : ℕ). bytesOfBits ((bitsOf s ++ front) ++ true ∷ replicate k false)) (zero-count z _ (length s) e pos len he)
+    ∙ ap bytesOfBits (append-assoc (bitsOf s) front (true ∷ replicate (7 - e + 8 * j) false))
+    ∙ bytes-of-bits s _ bytes ∙ ap (λ (t : List ℕ). s ++ t) (bytes-last last e j h he low)

@@ -1,0 +1,2 @@
+-- Laws of the runs.
+pub mod Sizes

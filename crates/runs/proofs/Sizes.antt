@@ -1,0 +1,24 @@
+-- A run by its word size.
+-- Assumes nothing.
+use mathlib.Core.Path.{_≡_, refl, sym, ap, _∙_, subst}
+use mathlib.Core.List.{List, _∷_}
+use Prim.Native.Nat.{ℕ, zero, suc, _/_, _≤_}
+use native.Mathlib.Nat.{le-of-suc-le-suc}
+use native.Mathlib.Omega.{arith}
+use lib.ListN.{length, take, replicate}
+use Rattle.lsh.specs.WordSize.{WordSize, sizeOf, blockBytes}
+use Rattle.lsh.specs.Block.{forwards}
+use Rattle.lsh.specs.Padding.{blocksOf}
+
+-- what the engine of a word size gives is what w asks for
+pub run-by : (w : ℕ) (s : List ℕ) {z : WordSize} {t t₁ r : List ℕ} {n : ℕ} → sizeOf w ≡ z → t₁ ≡ t
+    → (r ≡ forwards z (blocksOf z s) t₁) × (n ≡ length s / blockBytes z)
+    → (r ≡ forwards (sizeOf w) (blocksOf (sizeOf w) s) t) × (n ≡ length s / blockBytes (sizeOf w))
+run-by w s {z} {t} {t₁} {r} {n} is same run =
+    subst (λ (v : WordSize). (r ≡ forwards v (blocksOf v s) t) × (n ≡ length s / blockBytes v)) (sym is)
+    (run .0 ∙ ap (forwards z (blocksOf z s)) same, run .1)
+
+pub take-replicate : (k n a : ℕ) → k ≤ n → take k (replicate n a) ≡ replicate k a
+take-replicate zero n a h = refl
+take-replicate (suc k) zero a h = absurd (omega arith)
+take-replicate (suc k) (suc n) a h = ap (λ (r : List ℕ). a ∷ r) (take-replicate k n a (le-of-suc-le-suc h))
