@@ -9,6 +9,28 @@ ghost use Rattle.lsh.specs.WordSize.{isWordSize, sizeOf, blockBytes};
 ghost use Rattle.lsh.specs.Block.{Chain, forwards};
 ghost use Rattle.lsh.specs.Opening.{opening};
 ghost use Rattle.lsh.specs.Padding.{blocksOf};
+ghost use Rattle.runs.specs.Limits.{isDigestLength};
+
+pub const LIMIT: usize = 1099511627776;
+
+pub fn is_word_size(w: u64) -> bool
+    ensures { λ b. ⌜ b ≡ isWordSize w ⌝ }
+{
+    if w == 32 {
+        return true;
+    }
+    w == 64
+}
+
+pub fn is_digest_length(w: u64, n: u64) -> bool
+    requires { ⌜ isWordSize w ≡ true ⌝ }
+    ensures { λ b. ⌜ b ≡ isDigestLength w n ⌝ }
+{
+    if n == 0 {
+        return false;
+    }
+    n <= 8 * w
+}
 
 // A chain after whole blocks, and how many there were.
 pub struct Run {
