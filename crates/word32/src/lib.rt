@@ -65,7 +65,7 @@ pub fn load(s: &[u8], a: usize) -> u32
 }
 
 // Byte i of a word.
-fn byte(x: u32, i: u32) -> u8
+pub fn byte(x: u32, i: u32) -> u8
     requires { ⌜ i < 4 ⌝ }
     ensures { λ r. ⌜ r ≡ byteAt x i ⌝ }
 {

@@ -70,7 +70,7 @@ pub fn load(s: &[u8], a: usize) -> u64
 }
 
 // Byte i of a word.
-fn byte(x: u64, i: u32) -> u8
+pub fn byte(x: u64, i: u32) -> u8
     requires { ⌜ i < 8 ⌝ }
     ensures { λ r. ⌜ r ≡ byteAt x i ⌝ }
 {

@@ -1,0 +1,4 @@
+pub mod LastByte
+pub mod LastBlock
+pub mod FinalBytes
+pub mod Receipts

@@ -1,0 +1,2 @@
+pub mod Receipt
+pub mod Ending

@@ -1,0 +1,66 @@
+-- Pieces appended one after the other are one piece, and the record of a byte string is what Append makes of a new record.
+-- Assumes nothing.
+use mathlib.Core.Path.{_≡_, sym, ap, _∙_}
+use mathlib.Core.Bool.{true}
+use mathlib.Core.List.{List, [], _++_, append-assoc}
+use Prim.Native.Nat.{ℕ, _+_}
+use native.Mathlib.Nat.{zero-add, zero-mul, zero-div, zero-mod}
+use native.Mathlib.Omega.{arith}
+use lib.ListN.{length, length-append, length-replicate}
+use Rattle.lsh.specs.WordSize.{WordSize, isWordSize, sizeOf, blockBytes}
+use Rattle.lsh.specs.Block.{forwards}
+use Rattle.lsh.specs.Padding.{firstBlocks, blocksOf, restOf}
+use Rattle.lsh.proofs.Figures.{block-some}
+use Rattle.lsh.proofs.Blocks.{forwards-append}
+use Rattle.lsh.proofs.Padding.{blocks-append, rest-append}
+use Rattle.record.specs.declared.Record.{Record}
+use Rattle.record.specs.Record.{heldOf, heldBytes, recordOf}
+use Rattle.record.specs.Calls.{opened, appended}
+use Rattle.record.proofs.Held.{held-after}
+
+module _ (r : Record) (word : isWordSize (r .w) ≡ true) (long : length (r .held) ≡ 256) (p q : List ℕ) where
+  abbrev Z : WordSize
+  Z = sizeOf (r .w)
+
+  abbrev whole : List ℕ
+  whole = heldBytes r ++ p
+
+  total-joins : r .total + length p + length q ≡ r .total + length (p ++ q)
+  total-joins = omega (arith, length-append p q)
+
+  chain-joins : forwards Z (blocksOf Z (heldBytes (appended r p) ++ q)) (forwards Z (blocksOf Z whole) (r .chain)) ≡ forwards Z (blocksOf Z (heldBytes r ++ (p ++ q))) (r .chain)
+  chain-joins =
+      ap (λ (s : List ℕ). forwards Z (blocksOf Z (s ++ q)) (forwards Z (blocksOf Z whole) (r .chain))) (held-after r word long p)
+      ∙ sym (forwards-append Z (blocksOf Z whole) (blocksOf Z (restOf Z whole ++ q)) (r .chain))
+      ∙ ap (λ (bs : List (List ℕ)). forwards Z bs (r .chain)) (sym (blocks-append Z (block-some (r .w) word) whole q))
+      ∙ ap (λ (s : List ℕ). forwards Z (blocksOf Z s) (r .chain)) (append-assoc (heldBytes r) p q)
+
+  held-joins : heldOf (restOf Z (heldBytes (appended r p) ++ q)) ≡ heldOf (restOf Z (heldBytes r ++ (p ++ q)))
+  held-joins =
+      ap (λ (s : List ℕ). heldOf (restOf Z (s ++ q))) (held-after r word long p)
+      ∙ ap heldOf (sym (rest-append Z (block-some (r .w) word) whole q))
+      ∙ ap (λ (s : List ℕ). heldOf (restOf Z s)) (append-assoc (heldBytes r) p q)
+
+  pub append-joins : appended (appended r p) q ≡ appended r (p ++ q)
+  unfolding appended
+  append-joins = λ i. record { w = r .w; n = r .n; total = total-joins i; chain = chain-joins i; held = held-joins i }
+
+-- the record of no bytes, and of the bytes of one piece
+pub record-none : (w n : ℕ) → recordOf w n [] ≡ opened w n
+unfolding recordOf opened blocksOf firstBlocks restOf forwards
+record-none w n = rw (zero-div (blockBytes (sizeOf w)), zero-mul (blockBytes (sizeOf w)))
+
+record-piece : (w n : ℕ) (m : List ℕ) → appended (opened w n) m ≡ recordOf w n m
+unfolding recordOf opened appended heldBytes
+record-piece w n m = rw (zero-mod (blockBytes (sizeOf w)), zero-add (length m))
+
+opened-long : (w n : ℕ) → length (opened w n .held) ≡ 256
+unfolding opened heldOf
+opened-long w n = length-replicate {A = ℕ} 256 0
+
+pub append-record : (w n : ℕ) (m p : List ℕ) → isWordSize w ≡ true → appended (recordOf w n m) p ≡ recordOf w n (m ++ p)
+unfolding opened
+append-record w n m p word =
+    ap (λ (r : Record). appended r p) (sym (record-piece w n m))
+    ∙ append-joins (opened w n) word (opened-long w n) m p
+    ∙ record-piece w n (m ++ p)

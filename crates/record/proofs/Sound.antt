@@ -1,0 +1,60 @@
+-- What the tests of a sound record say.
+-- Assumes nothing.
+use mathlib.Core.Path.{_≡_, sym, subst}
+use mathlib.Core.Bool.{Bool, true, _&&_}
+use mathlib.Core.List.{List}
+use Prim.Native.Nat.{ℕ, _*_, _%_, _^_, _≤_, _<_}
+use native.Mathlib.Omega.{arith}
+use borrow.Author.Tests.{leb-true}
+use lib.Dec.{leb}
+use lib.ListN.{length, drop}
+use Rattle.lsh.specs.Tabulate.{at}
+use Rattle.lsh.specs.WordSize.{isWordSize, sizeOf, blockBytes}
+use Rattle.lsh.specs.Block.{Chain}
+use Rattle.lsh.proofs.Figures.{by-size, bits-are, block-is, block-some, block-most}
+use Rattle.runs.specs.Limits.{isDigestLength, limit}
+use Rattle.record.specs.declared.Record.{Record}
+use Rattle.record.specs.Record.{allBelow, allZero, sound}
+use Rattle.record.proofs.Lists.{and-true, at-below}
+
+pub record Sound (r : Record) : Type 0 where
+  pub word : isWordSize (r .w) ≡ true
+  pub few : r .total ≤ limit
+  pub below : allBelow (2 ^ r .w) (r .chain) ≡ true
+  pub zero : allZero (drop (r .total % blockBytes (sizeOf (r .w))) (r .held)) ≡ true
+
+pub sounds : (r : Record) → sound r ≡ true → Sound r
+unfolding sound
+sounds r e =
+    let a : Bool = isWordSize (r .w) in
+    let b : Bool = isDigestLength (r .w) (r .n) in
+    let c : Bool = leb (r .total) limit in
+    let d : Bool = allBelow (2 ^ r .w) (r .chain) in
+    let z : Bool = allZero (drop (r .total % blockBytes (sizeOf (r .w))) (r .held)) in
+    let p4 : (a && b && c && d ≡ true) × (z ≡ true) = and-true (a && b && c && d) z e in
+    let p3 : (a && b && c ≡ true) × (d ≡ true) = and-true (a && b && c) d (p4 .0) in
+    let p2 : (a && b ≡ true) × (c ≡ true) = and-true (a && b) c (p3 .0) in
+    record {
+      word = and-true a b (p2 .0) .0;
+      few = leb-true (r .total) limit (p2 .1);
+      below = p3 .1;
+      zero = p4 .1;
+    }
+
+-- the bytes of a block as the code counts them: some, and at most 256
+pub bytes-some : (w : ℕ) → isWordSize w ≡ true → 0 < 4 * w
+bytes-some w e = omega (arith, block-is w e, block-some w e)
+
+pub bytes-most : (w : ℕ) → isWordSize w ≡ true → 4 * w ≤ 256
+bytes-most w e = omega (arith, block-is w e, block-most w e)
+
+some-words : (w : ℕ) → isWordSize w ≡ true → 0 < 2 ^ w
+some-words = by-size (λ (w : ℕ). 0 < 2 ^ w) (omega arith) (omega arith)
+
+-- 16 words below 2 ^ w are a chain
+pub chain-is : (w : ℕ) (t : List ℕ) → isWordSize w ≡ true → length t ≡ 16 → allBelow (2 ^ w) t ≡ true → Chain (sizeOf w) t
+chain-is w t e words below =
+    record {
+      words = words;
+      below = λ l. subst (λ (v : ℕ). at t l < 2 ^ v) (sym (bits-are w e)) (at-below (2 ^ w) t (some-words w e) below l);
+    }

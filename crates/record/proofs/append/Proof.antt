@@ -1,0 +1,79 @@
+-- `record::append` meets its contract. Assumes nothing.
+use mathlib.Core.Path.{_≡_, sym, _∙_}
+use mathlib.Core.Bool.{true}
+use Prim.Native.Nat.{_+_, _*_, _≤_, _<_}
+use native.Mathlib.Nat.{mod-lt}
+use native.Mathlib.Omega.{arith}
+use lib.ListN.{length}
+use borrow.Author.Needs.{needs}
+use borrow.Author.Tests.{lt-ltb, le-ltb, not-true, not-false}
+use Rattle.runs.specs.Limits.{limit}
+use Rattle.record.specs.Record.{sound}
+use Rattle.record.specs.Calls.{refused, appendAccepted, appendCall}
+use Rattle.record.proofs.Sound.{Sound, sounds, bytes-some, bytes-most}
+use Rattle.record.proofs.append.Statement.{statement}
+use Rattle.record.proofs.append.Tie as tie
+
+-- the record is sound
+sound-is : (c : tie.Else1) → sound (c .before .before .before .args .r) ≡ true
+sound-is c = sym (c .before .is-sound .ensures) ∙ not-false _ (c .if1 .left)
+
+is-sound : (c : tie.Else1) → Sound (c .before .before .before .args .r)
+is-sound c = sounds (c .before .before .before .args .r) (sound-is c)
+
+most : (c : tie.Else1) → 4 * c .before .before .before .args .r .w ≤ 256
+most c = bytes-most _ (is-sound c .word)
+
+some : (c : tie.Else1) → 0 < 4 * c .before .before .before .args .r .w
+some c = bytes-some _ (is-sound c .word)
+
+-- the piece does not pass the limit
+within : (c : tie.Else2) → c .before .before .before .before .args .r .total + length (c .before .before .before .before .args .piece .now) ≤ limit
+unfolding limit
+within c = omega (arith, is-sound (c .before) .few, c .if2 .left)
+
+accepted : (c : tie.Else2)
+    → appendCall (c .before .before .before .before .args .r) (c .before .before .before .before .args .piece .now)
+    ≡ appendAccepted (c .before .before .before .before .args .r) (c .before .before .before .before .args .piece .now)
+unfolding appendCall
+accepted c = rw (sound-is (c .before), le-ltb _ _ (within c))
+
+returns : tie.Need-returns
+unfolding appendCall refused
+returns c = rw (sym (c .before .is-sound .ensures) ∙ not-true _ (c .if1 .taken))
+
+sub-if2 : tie.Need-sub-if2
+unfolding limit
+sub-if2 c = is-sound c .few
+
+returns-2 : tie.Need-returns-2
+unfolding appendCall refused limit
+returns-2 c =
+    let a = c .before .before .before .before .args in
+    let over : limit < a .r .total + length (a .piece .now) = omega (arith, is-sound (c .before) .few, c .if2 .taken) in
+    rw (sound-is (c .before), lt-ltb _ _ over)
+
+add-if4 : tie.Need-add-if4
+unfolding limit
+add-if4 c =
+    let r = c .before .before .before .before .before .args .r in
+    record { fits = omega (arith, within (c .before), mod-lt (r .total) (some (c .before .before)), most (c .before .before)) }
+
+pub append-spec : {M : Type 1} → statement M
+append-spec =
+    tie.close
+    (tie.spec
+    (λ c κs. search needs)
+    returns
+    sub-if2
+    returns-2
+    (λ c. record { fits = omega (arith, most (c .before)) })
+    (λ c. some (c .before))
+    (λ c κs. (sound-is (c .before .before), within (c .before), c .if3 .taken))
+    (λ c. c .append-even .ensures ∙ sym (accepted (c .before .before)))
+    add-if4
+    (λ c. record { fits = omega (arith, most (c .before .before)) })
+    (λ c κs. (sound-is (c .before .before .before), within (c .before .before), c .if4 .taken))
+    (λ c. c .append-short .ensures ∙ sym (accepted (c .before .before .before)))
+    (λ c κs. (sound-is (c .before .before .before), within (c .before .before), c .if4 .left))
+    (λ c. c .append-long .ensures ∙ sym (accepted (c .before .before .before))))

@@ -1,0 +1,35 @@
+-- `record::append_even` meets its contract. Assumes nothing.
+use mathlib.Core.Path.{_≡_, sym}
+use native.Mathlib.Omega.{arith}
+use lib.ListN.{length}
+use borrow.Author.Needs.{needs}
+use Rattle.runs.specs.Limits.{limit}
+use Rattle.record.proofs.Sound.{sounds, chain-is}
+use Rattle.record.proofs.Appending.{even}
+use Rattle.record.proofs.append_even.Statement.{statement}
+use Rattle.record.proofs.append_even.Tie as tie
+
+words : (z : tie.Start) → length (z .args .r .chain) ≡ 16
+words z = search needs
+
+long : (z : tie.Start) → length (z .args .r .held) ≡ 256
+long z = search needs
+
+take-whole-requires : tie.Need-take-whole-requires
+take-whole-requires c κs =
+    let z = c .before .before in
+    let s = sounds (z .args .r) (z .pre .0) in
+    (s .word, chain-is _ _ (s .word) (words z) (s .below))
+
+add-sum : tie.Need-add-sum
+unfolding limit
+add-sum c = record { fits = omega (arith, c .before .before .before .before .before .pre .1) }
+
+returns : tie.Need-returns
+returns c =
+    let z = c .before .before .before .before .before in
+    let t = c .before .before .take-whole in
+    rw (t .ensures .0, t .ensures .1, t .ensures .2) (sym (even (z .args .r) (z .pre .0) (long z) (z .args .piece .now) (z .pre .2)))
+
+pub append-even-spec : {M : Type 1} → statement M
+append-even-spec = tie.close (tie.spec take-whole-requires add-sum returns)

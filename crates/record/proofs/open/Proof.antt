@@ -1,0 +1,57 @@
+-- `record::open` meets its contract. Assumes nothing.
+use mathlib.Core.Path.{_≡_, sym, _∙_}
+use mathlib.Core.Bool.{true, not}
+use Prim.Native.Nat.{ℕ, _*_, _≤_}
+use lib.Dec.{eqb, leb}
+use borrow.Author.Needs.{needs}
+use borrow.Author.Tests.{leb-true, not-true, not-false}
+use Rattle.lsh.specs.WordSize.{isWordSize}
+use Rattle.lsh.specs.Opening.{opening}
+use Rattle.runs.specs.Limits.{isDigestLength}
+use Rattle.record.specs.Record.{heldOf}
+use Rattle.record.specs.Calls.{refused, opened, openCall}
+use Rattle.record.proofs.Lists.{and-true}
+use Rattle.record.proofs.open.Statement.{statement}
+use Rattle.record.proofs.open.Tie as tie
+
+word-passed : (c : tie.Else1) → isWordSize (c .before .before .args .w) ≡ true
+word-passed c = sym (c .before .is-word-size .ensures) ∙ not-false _ (c .if1 .left)
+
+digest-passed : (c : tie.Else2) → isDigestLength (c .before .before .before .before .args .w) (c .before .before .before .before .args .n) ≡ true
+digest-passed c = sym (c .before .is-digest-length .ensures) ∙ not-false _ (c .if2 .left)
+
+digest-most : (w n : ℕ) → isDigestLength w n ≡ true → n ≤ 8 * w
+unfolding isDigestLength
+digest-most w n e = leb-true n (8 * w) (and-true (not (eqb n 0)) (leb n (8 * w)) e .1)
+
+returns : tie.Need-returns
+unfolding openCall refused
+returns c = rw (sym (c .before .before .is-word-size .ensures) ∙ not-true _ (c .before .if1 .taken), c .no-record .ensures)
+
+returns-2 : tie.Need-returns-2
+unfolding openCall refused
+returns-2 c =
+    rw (
+      word-passed (c .before .before .before),
+      sym (c .before .before .is-digest-length .ensures) ∙ not-true _ (c .before .if2 .taken),
+      c .no-record2 .ensures,
+    )
+
+returns-3 : tie.Need-returns-3
+unfolding openCall opened heldOf
+returns-3 c =
+    rw (word-passed (c .before .before .before .before), digest-passed (c .before .before), c .before .opening .ensures, c .zero-bytes .ensures)
+
+pub open-spec : {M : Type 1} → statement M
+open-spec =
+    tie.close
+    (tie.spec
+    (λ c κs. search needs)
+    (λ c κs. search needs)
+    returns
+    (λ c κs. word-passed c)
+    (λ c κs. search needs)
+    returns-2
+    (λ c κs. (word-passed (c .before .before), digest-most _ _ (digest-passed c)))
+    (λ c κs. search needs)
+    returns-3)

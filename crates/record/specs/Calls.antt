@@ -1,0 +1,57 @@
+-- Open and Append: the answer's number, the count of blocks and the record that follows.
+-- Assumes nothing.
+use mathlib.Core.Bool.{not, cond}
+use mathlib.Core.List.{List, [], _++_}
+use Prim.Native.Nat.{ℕ, _+_, _-_, _/_}
+use lib.Dec.{ltb}
+use lib.ListN.{length}
+use Rattle.lsh.specs.WordSize.{isWordSize, sizeOf, blockBytes}
+use Rattle.lsh.specs.Block.{forwards}
+use Rattle.lsh.specs.Opening.{opening}
+use Rattle.lsh.specs.Padding.{blocksOf, restOf}
+use Rattle.runs.specs.Limits.{isDigestLength, limit}
+use Rattle.record.specs.declared.Record.{Record}
+use Rattle.record.specs.declared.Outcome.{Outcome}
+use Rattle.record.specs.Record.{heldOf, heldBytes, sound, zeros}
+
+-- a refused call: no block is run, and the record is as given here
+unfoldable pub refused : ℕ → Record → Outcome
+refused number r = record { number = number; count = 0; next = r }
+
+-- the record of an order without bytes
+unfoldable pub opened : ℕ → ℕ → Record
+opened w n = record { w = w; n = n; total = 0; chain = opening (sizeOf w) n; held = heldOf [] }
+
+-- Open: 1 if w is neither 32 nor 64, then 2 if n is no digest length of w, else 0
+unfoldable pub openCall : ℕ → ℕ → Outcome
+openCall w n =
+    cond (not (isWordSize w)) (refused 1 zeros)
+    (cond (not (isDigestLength w n)) (refused 2 zeros)
+    (record { number = 0; count = 0; next = opened w n }))
+
+-- the record after a piece: the bytes held and the piece are one string, its whole blocks are run and its rest is held
+unfoldable pub appended : Record → List ℕ → Record
+appended r piece =
+    record {
+      w = r .w;
+      n = r .n;
+      total = r .total + length piece;
+      chain = forwards (sizeOf (r .w)) (blocksOf (sizeOf (r .w)) (heldBytes r ++ piece)) (r .chain);
+      held = heldOf (restOf (sizeOf (r .w)) (heldBytes r ++ piece));
+    }
+
+-- an accepted Append: its count is how many more whole blocks the order has
+unfoldable pub appendAccepted : Record → List ℕ → Outcome
+appendAccepted r piece =
+    record {
+      number = 0;
+      count = (r .total + length piece) / blockBytes (sizeOf (r .w)) - r .total / blockBytes (sizeOf (r .w));
+      next = appended r piece;
+    }
+
+-- Append: 3 if the record is not sound, then 5 if the order would pass the limit, else 0
+unfoldable pub appendCall : Record → List ℕ → Outcome
+appendCall r piece =
+    cond (not (sound r)) (refused 3 r)
+    (cond (ltb limit (r .total + length piece)) (refused 5 r)
+    (appendAccepted r piece))

@@ -1,0 +1,55 @@
+-- The record of an order: when it is sound, the bytes it holds, and the record of a byte string.
+-- Assumes nothing.
+use mathlib.Core.Bool.{Bool, true, _&&_}
+use mathlib.Core.List.{List, [], _∷_, _++_}
+use Prim.Native.Nat.{ℕ, _-_, _%_, _^_}
+use lib.Dec.{eqb, ltb, leb}
+use lib.ListN.{length, take, drop, replicate}
+use Rattle.lsh.specs.WordSize.{isWordSize, sizeOf, blockBytes}
+use Rattle.lsh.specs.Block.{forwards}
+use Rattle.lsh.specs.Opening.{opening}
+use Rattle.lsh.specs.Padding.{blocksOf, restOf}
+use Rattle.runs.specs.Limits.{isDigestLength, limit}
+use Rattle.record.specs.declared.Record.{Record}
+
+-- the bytes s, and zeros after them, 256 in all
+unfoldable pub heldOf : List ℕ → List ℕ
+heldOf s = s ++ replicate (256 - length s) 0
+
+-- each number of s is below m
+abbrev pub allBelow : ℕ → List ℕ → Bool
+allBelow m [] = true
+allBelow m (x ∷ xs) = ltb x m && allBelow m xs
+
+-- each number of s is 0
+abbrev pub allZero : List ℕ → Bool
+allZero [] = true
+allZero (x ∷ xs) = eqb x 0 && allZero xs
+
+-- a record that the calls take: its figures are in range, its words fit in w bits, and each byte after those held is 0
+unfoldable pub sound : Record → Bool
+sound r =
+    isWordSize (r .w)
+    && isDigestLength (r .w) (r .n)
+    && leb (r .total) limit
+    && allBelow (2 ^ r .w) (r .chain)
+    && allZero (drop (r .total % blockBytes (sizeOf (r .w))) (r .held))
+
+-- the bytes held: those after the last whole block
+unfoldable pub heldBytes : Record → List ℕ
+heldBytes r = take (r .total % blockBytes (sizeOf (r .w))) (r .held)
+
+-- the record of zeros, which a refused Open returns
+unfoldable pub zeros : Record
+zeros = record { w = 0; n = 0; total = 0; chain = replicate 16 0; held = replicate 256 0 }
+
+-- the record of the bytes m: the opening chain run over their whole blocks, and the rest held
+unfoldable pub recordOf : ℕ → ℕ → List ℕ → Record
+recordOf w n m =
+    record {
+      w = w;
+      n = n;
+      total = length m;
+      chain = forwards (sizeOf w) (blocksOf (sizeOf w) m) (opening (sizeOf w) n);
+      held = heldOf (restOf (sizeOf w) m);
+    }

@@ -1,0 +1,305 @@
+// The record of an order, and the calls Open and Append.
+ghost use mathlib.Core.Path.{_≡_};
+ghost use mathlib.Core.Bool.{true};
+ghost use Prim.Native.Nat.{_+_, _*_, _/_, _%_, _^_, _<_, _≤_};
+ghost use lib.ListN.{length, drop};
+ghost use lib.Seq.{paste};
+ghost use Rattle.lsh.specs.WordSize.{isWordSize, sizeOf, blockBytes};
+ghost use Rattle.lsh.specs.Block.{Chain, forwards};
+ghost use Rattle.lsh.specs.Padding.{blocksOf, restOf};
+ghost use Rattle.runs.specs.Limits.{limit};
+ghost use Rattle.record.specs.Record.{heldOf, allBelow, allZero, sound, zeros};
+ghost use Rattle.record.specs.Calls.{openCall, appendAccepted, appendCall};
+
+// What is kept of an order between calls: the word size, the digest length in bits, how many bytes there were, the chain after
+// their whole blocks, and the bytes held since.
+pub struct Record {
+    pub w: u64,
+    pub n: u64,
+    pub total: u64,
+    pub chain: [u64; 16],
+    pub held: [u8; 256],
+}
+
+// The answer to a call: its number, how many blocks were run, and the record that follows.
+pub struct Outcome {
+    pub number: u32,
+    pub count: u64,
+    pub next: Record,
+}
+
+// A chain after whole blocks, how many there were, and the held bytes after them.
+struct Taken {
+    chain: [u64; 16],
+    count: u64,
+    held: [u8; 256],
+}
+
+// The record of a new order.
+pub fn open(w: u64, n: u64) -> Outcome
+    ensures { λ o. ⌜ o ≡ openCall w n ⌝ }
+{
+    if !runs::is_word_size(w) {
+        return Outcome {
+            number: 1,
+            count: 0,
+            next: no_record(),
+        };
+    }
+    if !runs::is_digest_length(w, n) {
+        return Outcome {
+            number: 2,
+            count: 0,
+            next: no_record(),
+        };
+    }
+    let c = runs::opening(w, n);
+    let h = runs::zero_bytes();
+    let next = Record {
+        w: w,
+        n: n,
+        total: 0,
+        chain: c,
+        held: h,
+    };
+    Outcome {
+        number: 0,
+        count: 0,
+        next: next,
+    }
+}
+
+fn no_record() -> Record
+    ensures { λ r. ⌜ r ≡ zeros ⌝ }
+{
+    Record {
+        w: 0,
+        n: 0,
+        total: 0,
+        chain: [0u64; 16],
+        held: [0u8; 256],
+    }
+}
+
+// Whether the calls take the record.
+pub fn is_sound(r: Record) -> bool
+    ensures { λ b. ⌜ b ≡ sound r ⌝ }
+{
+    let w = r.w;
+    let n = r.n;
+    let total = r.total;
+    let chain = r.chain;
+    let held = r.held;
+    if !runs::is_word_size(w) {
+        return false;
+    }
+    if !runs::is_digest_length(w, n) {
+        return false;
+    }
+    if (runs::LIMIT as u64) < total {
+        return false;
+    }
+    if !words_below(w, chain) {
+        return false;
+    }
+    let at = (total % (4 * w)) as usize;
+    zero_from(at, held)
+}
+
+// Whether each word of the chain has w bits.
+fn words_below(w: u64, chain: [u64; 16]) -> bool
+    requires { ⌜ isWordSize w ≡ true ⌝ }
+    ensures { λ b. ⌜ b ≡ allBelow (2 ^ w) chain ⌝ }
+{
+    let c = chain;
+    if w == 64 {
+        return true;
+    }
+    let mut i: usize = 0;
+    while i < 16 {
+        if 4294967296 <= c[i] {
+            return false;
+        }
+        i += 1;
+    }
+    true
+}
+
+// Whether each held byte from a place on is 0.
+fn zero_from(at: usize, held: [u8; 256]) -> bool
+    ensures { λ b. ⌜ b ≡ allZero (drop at held) ⌝ }
+{
+    let h = held;
+    let mut i = at;
+    while i < 256 {
+        if h[i] != 0 {
+            return false;
+        }
+        i += 1;
+    }
+    true
+}
+
+// The record after the piece.
+pub fn append(r: Record, piece: &[u8]) -> Outcome
+    ensures { λ o. ⌜ o ≡ appendCall r (now (piece .entry)) ⌝ }
+{
+    if !is_sound(r) {
+        return Outcome {
+            number: 3,
+            count: 0,
+            next: r,
+        };
+    }
+    let total = r.total;
+    let w = r.w;
+    let len = piece.len() as u64;
+    if runs::LIMIT as u64 - total < len {
+        return Outcome {
+            number: 5,
+            count: 0,
+            next: r,
+        };
+    }
+    let at = total % (4 * w);
+    if at == 0 {
+        return append_even(r, piece);
+    }
+    if at + len < 4 * w {
+        return append_short(r, piece);
+    }
+    append_long(r, piece)
+}
+
+// To a record that holds no bytes.
+fn append_even(r: Record, piece: &[u8]) -> Outcome
+    requires { ⌜ (sound r ≡ true) × (r .total + length (now piece) ≤ limit) × (r .total % (4 * r .w) ≡ 0) ⌝ }
+    ensures { λ o. ⌜ o ≡ appendAccepted r (now (piece .entry)) ⌝ }
+{
+    let w = r.w;
+    let n = r.n;
+    let total = r.total;
+    let chain = r.chain;
+    let t = take_whole(w, chain, piece);
+    let count = t.count;
+    let c = t.chain;
+    let h = t.held;
+    let sum = total + piece.len() as u64;
+    let next = Record {
+        w: w,
+        n: n,
+        total: sum,
+        chain: c,
+        held: h,
+    };
+    Outcome {
+        number: 0,
+        count: count,
+        next: next,
+    }
+}
+
+// A piece that does not fill the block begun.
+fn append_short(r: Record, piece: &[u8]) -> Outcome
+    requires { ⌜ (sound r ≡ true) × (r .total + length (now piece) ≤ limit) × (r .total % (4 * r .w) + length (now piece) < 4 * r .w) ⌝ }
+    ensures { λ o. ⌜ o ≡ appendAccepted r (now (piece .entry)) ⌝ }
+{
+    let w = r.w;
+    let n = r.n;
+    let total = r.total;
+    let chain = r.chain;
+    let held = r.held;
+    let at = (total % (4 * w)) as usize;
+    let h = put(held, at, piece);
+    let sum = total + piece.len() as u64;
+    let next = Record {
+        w: w,
+        n: n,
+        total: sum,
+        chain: chain,
+        held: h,
+    };
+    Outcome {
+        number: 0,
+        count: 0,
+        next: next,
+    }
+}
+
+// A piece that fills the block begun: this block is run first, and the blocks after it straight from the piece.
+fn append_long(r: Record, piece: &[u8]) -> Outcome
+    requires { ⌜ (sound r ≡ true) × (r .total + length (now piece) ≤ limit) × (4 * r .w ≤ r .total % (4 * r .w) + length (now piece)) ⌝ }
+    ensures { λ o. ⌜ o ≡ appendAccepted r (now (piece .entry)) ⌝ }
+{
+    let w = r.w;
+    let n = r.n;
+    let total = r.total;
+    let chain = r.chain;
+    let held = r.held;
+    let size = (4 * w) as usize;
+    let at = (total % (4 * w)) as usize;
+    let room = size - at;
+    let first = put(held, at, &piece[..room]);
+    let begun = runs::forward(w, chain, &first[..size]);
+    let filled = begun.chain;
+    let t = take_whole(w, filled, &piece[room..]);
+    let count = t.count + 1;
+    let c = t.chain;
+    let h = t.held;
+    let sum = total + piece.len() as u64;
+    let next = Record {
+        w: w,
+        n: n,
+        total: sum,
+        chain: c,
+        held: h,
+    };
+    Outcome {
+        number: 0,
+        count: count,
+        next: next,
+    }
+}
+
+// The whole blocks of the piece are run on the chain, and the rest of the piece is held.
+fn take_whole(w: u64, chain: [u64; 16], piece: &[u8]) -> Taken
+    requires { ⌜ (isWordSize w ≡ true) × Chain (sizeOf w) chain ⌝ }
+    ensures { λ t. ⌜ (t .chain ≡ forwards (sizeOf w) (blocksOf (sizeOf w) (now (piece .entry))) chain)
+        × (t .count ≡ length (now (piece .entry)) / blockBytes (sizeOf w))
+        × (t .held ≡ heldOf (restOf (sizeOf w) (now (piece .entry)))) ⌝ }
+{
+    let run = runs::forward(w, chain, piece);
+    let c = run.chain;
+    let count = run.count;
+    let at = count * (4 * w) as usize;
+    let held = hold(&piece[at..]);
+    Taken {
+        chain: c,
+        count: count as u64,
+        held: held,
+    }
+}
+
+// The held bytes that begin with the part, the others 0.
+fn hold(part: &[u8]) -> [u8; 256]
+    requires { ⌜ length (now part) ≤ 256 ⌝ }
+    ensures { λ r. ⌜ r ≡ heldOf (now (part .entry)) ⌝ }
+{
+    let zeros = runs::zero_bytes();
+    put(zeros, 0, part)
+}
+
+// The held bytes with the part written from a place on.
+fn put(held: [u8; 256], at: usize, part: &[u8]) -> [u8; 256]
+    requires { ⌜ at + length (now part) ≤ 256 ⌝ }
+    ensures { λ r. ⌜ r ≡ paste held at (now (part .entry)) (length (now (part .entry))) ⌝ }
+{
+    let mut h = held;
+    let mut i: usize = 0;
+    while i < part.len() {
+        let place = at + i;
+        h[place] = part[i];
+        i += 1;
+    }
+    h
+}

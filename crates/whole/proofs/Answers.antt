@@ -1,0 +1,97 @@
+-- What an answer says of a call of Whole, and the output after each answer.
+-- Assumes nothing.
+use mathlib.Core.Path.{_≡_, refl, sym, ap, _∙_}
+use mathlib.Core.Bool.{Bool, true, false, not, _&&_, cond, false≢true}
+use mathlib.Core.List.{List, _∷_, _++_}
+use Prim.Native.Nat.{ℕ, _+_, _-_, _*_, _%_, _^_, _≤_, _<_}
+use native.Mathlib.Omega.{arith}
+use borrow.Author.Tests.{ltb-false, leb-true, eqb-true, eq-eqb, ne-eqb}
+use lib.Dec.{ltb, leb, eqb}
+use lib.ListN.{length, drop, replicate}
+use Rattle.lsh.specs.WordSize.{isWordSize, sizeOf, blockBytes}
+use Rattle.lsh.specs.Block.{forwards}
+use Rattle.lsh.specs.Opening.{opening}
+use Rattle.lsh.specs.Bits.{bytesOfBits}
+use Rattle.lsh.specs.Padding.{padded, blocksOf}
+use Rattle.lsh.specs.Hash.{digest, hash, lsh}
+use Rattle.lsh.proofs.Bytes.{Bytes}
+use Rattle.lsh.proofs.Figures.{block-some}
+use Rattle.message.proofs.Padded.{padded-bytes}
+use Rattle.runs.specs.Limits.{isDigestLength, limit}
+use Rattle.receipt.specs.Receipt.{receiptBytes, receipt}
+use Rattle.receipt.specs.Ending.{messageBits, endAnswer}
+use Rattle.whole.specs.Whole.{wholeAnswer, wholeOutput}
+
+-- a digest length is at most 8w
+pub most : (w n : ℕ) → isDigestLength w n ≡ true → n ≤ 8 * w
+unfolding isDigestLength
+most w n e = leb-true n (8 * w) (go (not (eqb n 0)) (leb n (8 * w)) e)
+  where
+    go : (p q : Bool) → p && q ≡ true → q ≡ true
+    go true q e = e
+    go false q e = absurd (false≢true e)
+
+-- an accepted call
+pub record Accepted (w n last e size : ℕ) : Type 0 where
+  pub wordSize : isWordSize w ≡ true
+  pub digestLength : isDigestLength w n ≡ true
+  pub extra : e ≤ 7
+  pub low : last % 2 ^ (8 - e) ≡ 0
+  pub room : receiptBytes ≤ size
+
+module _ (w n len last e size : ℕ) where
+  front : wholeAnswer w n len last e size ≡ 0 → (isWordSize w ≡ true) × (isDigestLength w n ≡ true) × (endAnswer last e size ≡ 0)
+  unfolding wholeAnswer
+  front is = go (isWordSize w) (isDigestLength w n) (ltb limit len) (endAnswer last e size) is
+    where
+      go : (p q r : Bool) (a : ℕ) → cond (not p) 1 (cond (not q) 2 (cond r 5 a)) ≡ 0 → (p ≡ true) × (q ≡ true) × (a ≡ 0)
+      go true true false a is = (refl, refl, is)
+      go true true true a is = absurd (omega arith)
+      go true false r a is = absurd (omega arith)
+      go false q r a is = absurd (omega arith)
+
+  end : endAnswer last e size ≡ 0 → (ltb 7 e ≡ false) × (eqb (last % 2 ^ (8 - e)) 0 ≡ true) × (ltb size receiptBytes ≡ false)
+  unfolding endAnswer
+  end is = go (ltb 7 e) (eqb (last % 2 ^ (8 - e)) 0) (ltb size receiptBytes) is
+    where
+      go : (p q r : Bool) → _≡_ {A = ℕ} (cond p 10 (cond (not q) 11 (cond r 12 0))) 0 → (p ≡ false) × (q ≡ true) × (r ≡ false)
+      go false true false is = (refl, refl, refl)
+      go false true true is = absurd (omega arith)
+      go false false r is = absurd (omega arith)
+      go true q r is = absurd (omega arith)
+
+  pub accepted : wholeAnswer w n len last e size ≡ 0 → Accepted w n last e size
+  accepted is =
+      record {
+        wordSize = front is .0;
+        digestLength = front is .1;
+        extra = ltb-false 7 e (end (front is .2) .0);
+        low = eqb-true (last % 2 ^ (8 - e)) 0 (end (front is .2) .1);
+        room = ltb-false size receiptBytes (end (front is .2) .2);
+      }
+
+module _ (w n : ℕ) (m : List ℕ) (last e : ℕ) (output : List ℕ) where
+  abbrev answer : ℕ
+  answer = wholeAnswer w n (length m) last e (length output)
+
+  pub refused-output : {a : ℕ} → a ≡ answer → (a ≡ 0 → ⊥) → (a ≡ answer) × (output ≡ wholeOutput w n m last e output)
+  unfolding wholeOutput
+  refused-output is other = (is, rw (ne-eqb answer 0 (λ p. other (is ∙ p))))
+
+  pub accepted-output : {p : ℕ} {t d : List ℕ} → answer ≡ 0 → Bytes m → last < 256 → p ≡ last + 2 ^ (7 - e)
+      → t ≡ forwards (sizeOf w) (blocksOf (sizeOf w) (m ++ p ∷ replicate (blockBytes (sizeOf w) - 1 - length m % blockBytes (sizeOf w)) 0)) (opening (sizeOf w) n)
+      → d ≡ receipt w n (digest (sizeOf w) n t) ++ drop receiptBytes output
+      → (0 ≡ answer) × (d ≡ wholeOutput w n m last e output)
+  unfolding wholeOutput lsh hash messageBits
+  accepted-output {p} {t} {d} is bytes byte pad run stored =
+      let a : Accepted w n last e (length output) = accepted w n (length m) last e (length output) is in
+      let tail : List ℕ = replicate (blockBytes (sizeOf w) - 1 - length m % blockBytes (sizeOf w)) 0 in
+      let whole : m ++ p ∷ tail ≡ bytesOfBits (padded (sizeOf w) (messageBits m last e)) =
+      ap (λ (b : ℕ). m ++ b ∷ tail) pad
+      ∙ sym (padded-bytes (sizeOf w) m last e (block-some w (a .wordSize)) bytes byte (a .extra) (a .low)) in (
+        sym is,
+        stored
+            ∙ ap (λ (c : List ℕ). receipt w n (digest (sizeOf w) n c) ++ drop receiptBytes output)
+            (run ∙ ap (λ (s : List ℕ). forwards (sizeOf w) (blocksOf (sizeOf w) s) (opening (sizeOf w) n)) whole)
+            ∙ sym (rw (eq-eqb answer 0 is)),
+      )

@@ -1,0 +1,2 @@
+pub mod FinalChain
+pub mod Answers

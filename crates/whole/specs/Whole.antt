@@ -1,0 +1,28 @@
+-- Whole of document 01 ("Receipts and the tally"): the answer, and the output after the call.
+-- Assumes nothing.
+use mathlib.Core.Bool.{not, cond}
+use mathlib.Core.List.{List, _++_}
+use Prim.Native.Nat.{ℕ}
+use lib.Dec.{ltb, eqb}
+use lib.ListN.{length, drop}
+use Rattle.lsh.specs.WordSize.{isWordSize}
+use Rattle.lsh.specs.Hash.{lsh}
+use Rattle.runs.specs.Limits.{isDigestLength, limit}
+use Rattle.receipt.specs.Receipt.{receiptBytes, receipt}
+use Rattle.receipt.specs.Ending.{messageBits, endAnswer}
+
+-- by w, n, the length of the message, its last byte with e bits, and the size of the output: 1 if w is neither 32 nor 64, then 2 if n is no
+-- digest length, then 5 if the message is above the limit, and then the answer of its end
+unfoldable pub wholeAnswer : ℕ → ℕ → ℕ → ℕ → ℕ → ℕ → ℕ
+wholeAnswer w n len last e size =
+    cond (not (isWordSize w)) 1
+    (cond (not (isDigestLength w n)) 2
+    (cond (ltb limit len) 5
+    (endAnswer last e size)))
+
+-- the output after the call: its front replaced by the receipt of the message's digest if the answer is 0, else as it came
+unfoldable pub wholeOutput : ℕ → ℕ → List ℕ → ℕ → ℕ → List ℕ → List ℕ
+wholeOutput w n s last e output =
+    cond (eqb (wholeAnswer w n (length s) last e (length output)) 0)
+    (receipt w n (lsh w n (messageBits s last e)) ++ drop receiptBytes output)
+    output
