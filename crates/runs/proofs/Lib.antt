@@ -1,2 +1,2 @@
--- Laws of the runs.
 pub mod Sizes
+pub mod Published

@@ -1,14 +1,17 @@
 -- A run by its word size.
 -- Assumes nothing.
 use mathlib.Core.Path.{_≡_, refl, sym, ap, _∙_, subst}
+use mathlib.Core.Bool.{true}
 use mathlib.Core.List.{List, _∷_}
-use Prim.Native.Nat.{ℕ, zero, suc, _/_, _≤_}
-use native.Mathlib.Nat.{le-of-suc-le-suc}
+use Prim.Native.Nat.{ℕ, zero, suc, _*_, _/_, _≤_, _<_}
+use native.Mathlib.Nat.{le-of-suc-le-suc, div-eq-of-lt}
 use native.Mathlib.Omega.{arith}
 use lib.ListN.{length, take, replicate}
-use Rattle.lsh.specs.WordSize.{WordSize, sizeOf, blockBytes}
+use Rattle.lsh.specs.WordSize.{WordSize, isWordSize, sizeOf, blockBytes}
 use Rattle.lsh.specs.Block.{forwards}
 use Rattle.lsh.specs.Padding.{blocksOf}
+use Rattle.lsh.proofs.Figures.{block-is, block-some}
+use Rattle.lsh.proofs.Padding.{blocks-short}
 
 -- what the engine of a word size gives is what w asks for
 pub run-by : (w : ℕ) (s : List ℕ) {z : WordSize} {t t₁ r : List ℕ} {n : ℕ} → sizeOf w ≡ z → t₁ ≡ t
@@ -17,6 +20,14 @@ pub run-by : (w : ℕ) (s : List ℕ) {z : WordSize} {t t₁ r : List ℕ} {n : 
 run-by w s {z} {t} {t₁} {r} {n} is same run =
     subst (λ (v : WordSize). (r ≡ forwards v (blocksOf v s) t) × (n ≡ length s / blockBytes v)) (sym is)
     (run .0 ∙ ap (forwards z (blocksOf z s)) same, run .1)
+
+-- a string without a whole block
+pub run-none : (w : ℕ) (s t : List ℕ) → isWordSize w ≡ true → length s < 4 * w
+    → (t ≡ forwards (sizeOf w) (blocksOf (sizeOf w) s) t) × (0 ≡ length s / blockBytes (sizeOf w))
+unfolding forwards
+run-none w s t size short =
+    let less : length s < blockBytes (sizeOf w) = rw (block-is w size) short in
+    (rw (blocks-short (sizeOf w) (block-some w size) s less), sym (div-eq-of-lt less))
 
 pub take-replicate : (k n a : ℕ) → k ≤ n → take k (replicate n a) ≡ replicate k a
 take-replicate zero n a h = refl

@@ -1,11 +1,12 @@
 -- `runs::forward` meets its contract: the engine of the word size. Assumes nothing.
 use mathlib.Core.Path.{refl, _∙_, subst}
 use Prim.Native.Nat.{_<_, _^_}
+use native.Mathlib.Omega.{arith}
 use borrow.Author.Needs.{needs}
 use Rattle.lsh.specs.Tabulate.{at}
 use Rattle.lsh.specs.WordSize.{WordSize, lsh256}
-use Rattle.lsh.proofs.Figures.{size-32, size-64}
-use Rattle.runs.proofs.Sizes.{run-by}
+use Rattle.lsh.proofs.Figures.{size-32, size-64, block-is, block-most}
+use Rattle.runs.proofs.Sizes.{run-by, run-none}
 use Rattle.runs.proofs.forward.Statement.{statement}
 use Rattle.runs.proofs.forward.Tie as tie
 
@@ -14,9 +15,11 @@ unfolding lsh256
 forward-spec =
     tie.close
     (tie.spec
-    (λ c κs l. subst (λ (z : WordSize). at (c .before .before .args .t) l < 2 ^ z .bits) (size-32 (c .if1 .taken)) (c .before .before .pre .1 .below l))
+    (λ c. record { fits = omega (arith, block-is _ (c .before .pre .0), block-most _ (c .before .pre .0)) })
+    (λ c. run-none _ (c .before .before .args .s .now) _ (c .before .before .pre .0) (c .if1 .taken))
+    (λ c κs l. subst (λ (z : WordSize). at (c .before .before .before .args .t) l < 2 ^ z .bits) (size-32 (c .if2 .taken)) (c .before .before .before .pre .1 .below l))
     (λ c κs. search needs)
     (λ c κs. search needs)
-    (λ c. run-by _ _ (size-32 (c .before .before .before .before .if1 .taken)) (c .before .before .before .narrow .ensures) (c .widen .ensures ∙ c .before .before .forward .ensures .0, c .before .before .forward .ensures .1))
+    (λ c. run-by _ _ (size-32 (c .before .before .before .before .if2 .taken)) (c .before .before .before .narrow .ensures) (c .widen .ensures ∙ c .before .before .forward .ensures .0, c .before .before .forward .ensures .1))
     (λ c κs. search needs)
-    (λ c. run-by _ _ (size-64 _ (c .before .before .before .before .pre .0) (c .before .before .if1 .left)) refl (c .before .forward2 .ensures)))
+    (λ c. run-by _ _ (size-64 _ (c .before .before .before .before .before .pre .0) (c .before .before .if2 .left)) refl (c .before .forward2 .ensures)))
