@@ -2,88 +2,17 @@
  * After each call it checks the answer, every byte of both buffers and the guard bytes on both sides of them.
  * It prints how many checks passed, or each that failed; the exit status is 0 only if all passed. */
 #include <inttypes.h>
-#include <stdarg.h>
 #include <stdbool.h>
 #include <stdio.h>
-#include <stdlib.h>
 #include <string.h>
 
 #include "lsh_kiosk.h"
 
-#define COUNT(array) (sizeof(array) / sizeof((array)[0]))
-
-#define ROUNDS 10000      /* random chains and blocks at each word size */
-#define SHOWN_FAILURES 20 /* further ones are only counted */
-
-/* ---- checks ---- */
-
-static unsigned long passed, failed;
-
-__attribute__((format(printf, 2, 3))) static void check(bool holds, const char *format, ...)
-{
-    if (holds) {
-        passed++;
-        return;
-    }
-    if (failed++ < SHOWN_FAILURES) {
-        va_list words;
-        va_start(words, format);
-        fputs("block_calls: FAILED: ", stdout);
-        vprintf(format, words);
-        putchar('\n');
-        va_end(words);
-    }
-}
-
-/* splitmix64: the same numbers in every run, so that a failure can be repeated. */
-static uint64_t next_random(void)
-{
-    static uint64_t state = 1;
-    uint64_t z = state += 0x9e3779b97f4a7c15u;
-    z = (z ^ z >> 30) * 0xbf58476d1ce4e5b9u;
-    z = (z ^ z >> 27) * 0x94d049bb133111ebu;
-    return z ^ z >> 31;
-}
-
-/* ---- buffers ---- */
-
-#define GUARD 64     /* guard bytes before and after a buffer, at least */
-#define ALIGNMENT 16 /* a buffer starts at any distance from a multiple of this */
+#define PROGRAM "block_calls"
 #define LARGEST LSH_BLOCK_BYTES(64)
-#define GUARDED (GUARD + ALIGNMENT + LARGEST + GUARD)
+#include "checks.h"
 
-/* A buffer to lend, the guard bytes around it, and a copy of all of them. */
-struct guarded {
-    _Alignas(ALIGNMENT) uint8_t bytes[GUARDED];
-    uint8_t copy[GUARDED];
-    size_t start; /* of the buffer, in bytes */
-};
-
-static uint8_t *buffer(struct guarded *guarded)
-{
-    return guarded->bytes + guarded->start;
-}
-
-static void take_copy(struct guarded *guarded)
-{
-    memcpy(guarded->copy, guarded->bytes, GUARDED);
-}
-
-static void fill(struct guarded *guarded)
-{
-    guarded->start = GUARD + next_random() % ALIGNMENT;
-    for (size_t i = 0; i < GUARDED; i++) {
-        guarded->bytes[i] = (uint8_t)next_random();
-    }
-}
-
-/* Whether all bytes are those of the copy, except for the first `writable` bytes of the buffer. */
-static bool kept_except(const struct guarded *guarded, size_t writable)
-{
-    size_t end = guarded->start + writable;
-    return memcmp(guarded->bytes, guarded->copy, guarded->start) == 0
-        && memcmp(guarded->bytes + end, guarded->copy + end, GUARDED - end) == 0;
-}
+#define ROUNDS 10000 /* random chains and blocks at each word size */
 
 /* ---- calls ---- */
 
@@ -236,10 +165,5 @@ int main(void)
     for (size_t i = 0; i < COUNT(runs); i++) {
         try_word_sizes_and_lengths(&runs[i]);
     }
-    if (failed != 0) {
-        printf("block_calls: %lu of %lu checks FAILED\n", failed, passed + failed);
-        return EXIT_FAILURE;
-    }
-    printf("block_calls: %lu checks passed\n", passed);
-    return EXIT_SUCCESS;
+    return report();
 }

@@ -3,6 +3,8 @@ ghost use mathlib.Core.Path.{_≡_};
 ghost use Rattle.lsh.specs.WordSize.{lsh256, lsh512};
 ghost use Rattle.lsh.specs.Block.{forwards, backwards};
 ghost use Rattle.bench_runs.specs.Runs.{runsAnswer, runsBytes};
+ghost use Rattle.lsh.specs.Tabulate.{at};
+ghost use Rattle.record.specs.Calls.{openCall, appendCall};
 use lsh256::Lsh256;
 use lsh512::Lsh512;
 
@@ -60,4 +62,15 @@ pub extern "C" fn bench_backward512(chain: &mut [u8], blocks: &[u8]) -> u32
     let reached = run.chain;
     lsh512::store_chain(chain, reached);
     0
+}
+
+// Word 0 of the chain of a new record after an Append.
+#[no_mangle]
+pub extern "C" fn bench_append(w: u64, n: u64, piece: &[u8]) -> u64
+    ensures { λ r. ⌜ r ≡ at (appendCall (openCall w n .next) (now (piece .entry)) .next .chain) 0 ⌝ }
+{
+    let opened = record::open(w, n);
+    let appended = record::append(opened.next, piece);
+    let next = appended.next;
+    next.chain[0]
 }

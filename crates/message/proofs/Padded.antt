@@ -30,15 +30,26 @@ zero-count z m L e pos len he =
     ap (λ (n : ℕ). n / (8 * B)) blocks ∙ digits-div (q + 1) (omega arith) in
     rw count (omega arith)
 
+-- the whole bytes stay as they are, and only the bits x after them are padded
+pub padded-rest : (z : WordSize) (s : List ℕ) (x : List Bool) → 0 < blockBytes z → Bytes s → length x ≤ 7
+    → bytesOfBits (padded z (bitsOf s ++ x))
+    ≡ s ++ bytesOfBits (x ++ true ∷ replicate (7 - length x + 8 * (blockBytes z - 1 - length s % blockBytes z)) false)
+unfolding padded
+padded-rest z s x pos bytes few =
+    let len : length (bitsOf s ++ x) ≡ 8 * length s + length x = omega (arith, length-append (bitsOf s) x, length-bits s) in
+    let zeros : ℕ = 7 - length x + 8 * (blockBytes z - 1 - length s % blockBytes z) in
+    ap (λ (k : ℕ). bytesOfBits ((bitsOf s ++ x) ++ true ∷ replicate k false)) (zero-count z _ (length s) (length x) pos len few)
+    ∙ ap bytesOfBits (append-assoc (bitsOf s) x (true ∷ replicate zeros false))
+    ∙ bytes-of-bits s _ bytes
+
 pub padded-bytes : (z : WordSize) (s : List ℕ) (last e : ℕ) → 0 < blockBytes z → Bytes s → last < 256 → e ≤ 7 → last % 2 ^ (8 - e) ≡ 0
     → bytesOfBits (padded z (bitsOf s ++ take e (bitsOfByte last)))
     ≡ s ++ (last + 2 ^ (7 - e)) ∷ replicate (blockBytes z - 1 - length s % blockBytes z) 0
-unfolding padded bitsOfByte
+unfolding bitsOfByte
 padded-bytes z s last e pos bytes h he low =
     let front : List Bool = take e (bitsOfByte last) in
-    let len : length (bitsOf s ++ front) ≡ 8 * length s + e =
-    omega (arith, length-append (bitsOf s) front, length-bits s, length-take-le e (bitsOfByte last) (omega arith)) in
+    let size : length front ≡ e = length-take-le e (bitsOfByte last) (omega arith) in
     let j : ℕ = blockBytes z - 1 - length s % blockBytes z in
-    ap (λ (k : ℕ). bytesOfBits ((bitsOf s ++ front) ++ true ∷ replicate k false)) (zero-count z _ (length s) e pos len he)
-    ∙ ap bytesOfBits (append-assoc (bitsOf s) front (true ∷ replicate (7 - e + 8 * j) false))
-    ∙ bytes-of-bits s _ bytes ∙ ap (λ (t : List ℕ). s ++ t) (bytes-last last e j h he low)
+    padded-rest z s front pos bytes (omega arith)
+    ∙ ap (λ (k : ℕ). s ++ bytesOfBits (front ++ true ∷ replicate (7 - k + 8 * j) false)) size
+    ∙ ap (λ (t : List ℕ). s ++ t) (bytes-last last e j h he low)

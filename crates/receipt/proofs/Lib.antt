@@ -2,3 +2,4 @@ pub mod LastByte
 pub mod LastBlock
 pub mod FinalBytes
 pub mod Receipts
+pub mod Ending

@@ -4,3 +4,4 @@ pub mod Sound
 pub mod Held
 pub mod Appending
 pub mod Joins
+pub mod Strings

@@ -19,6 +19,7 @@ use Rattle.record.proofs.Lists.{and-true, at-below}
 
 pub record Sound (r : Record) : Type 0 where
   pub word : isWordSize (r .w) ≡ true
+  pub digestLength : isDigestLength (r .w) (r .n) ≡ true
   pub few : r .total ≤ limit
   pub below : allBelow (2 ^ r .w) (r .chain) ≡ true
   pub zero : allZero (drop (r .total % blockBytes (sizeOf (r .w))) (r .held)) ≡ true
@@ -36,6 +37,7 @@ sounds r e =
     let p2 : (a && b ≡ true) × (c ≡ true) = and-true (a && b) c (p3 .0) in
     record {
       word = and-true a b (p2 .0) .0;
+      digestLength = and-true a b (p2 .0) .1;
       few = leb-true (r .total) limit (p2 .1);
       below = p3 .1;
       zero = p4 .1;

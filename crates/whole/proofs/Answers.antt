@@ -5,7 +5,7 @@ use mathlib.Core.Bool.{Bool, true, false, not, _&&_, cond, false≢true}
 use mathlib.Core.List.{List, _∷_, _++_}
 use Prim.Native.Nat.{ℕ, _+_, _-_, _*_, _%_, _^_, _≤_, _<_}
 use native.Mathlib.Omega.{arith}
-use borrow.Author.Tests.{ltb-false, leb-true, eqb-true, eq-eqb, ne-eqb}
+use borrow.Author.Tests.{leb-true, eq-eqb, ne-eqb}
 use lib.Dec.{ltb, leb, eqb}
 use lib.ListN.{length, drop, replicate}
 use Rattle.lsh.specs.WordSize.{isWordSize, sizeOf, blockBytes}
@@ -20,6 +20,7 @@ use Rattle.message.proofs.Padded.{padded-bytes}
 use Rattle.runs.specs.Limits.{isDigestLength, limit}
 use Rattle.receipt.specs.Receipt.{receiptBytes, receipt}
 use Rattle.receipt.specs.Ending.{messageBits, endAnswer}
+use Rattle.receipt.proofs.Ending.{Ended, ended}
 use Rattle.whole.specs.Whole.{wholeAnswer, wholeOutput}
 
 -- a digest length is at most 8w
@@ -35,9 +36,7 @@ most w n e = leb-true n (8 * w) (go (not (eqb n 0)) (leb n (8 * w)) e)
 pub record Accepted (w n last e size : ℕ) : Type 0 where
   pub wordSize : isWordSize w ≡ true
   pub digestLength : isDigestLength w n ≡ true
-  pub extra : e ≤ 7
-  pub low : last % 2 ^ (8 - e) ≡ 0
-  pub room : receiptBytes ≤ size
+  pub end : Ended last e size
 
 module _ (w n len last e size : ℕ) where
   front : wholeAnswer w n len last e size ≡ 0 → (isWordSize w ≡ true) × (isDigestLength w n ≡ true) × (endAnswer last e size ≡ 0)
@@ -50,24 +49,12 @@ module _ (w n len last e size : ℕ) where
       go true false r a is = absurd (omega arith)
       go false q r a is = absurd (omega arith)
 
-  end : endAnswer last e size ≡ 0 → (ltb 7 e ≡ false) × (eqb (last % 2 ^ (8 - e)) 0 ≡ true) × (ltb size receiptBytes ≡ false)
-  unfolding endAnswer
-  end is = go (ltb 7 e) (eqb (last % 2 ^ (8 - e)) 0) (ltb size receiptBytes) is
-    where
-      go : (p q r : Bool) → _≡_ {A = ℕ} (cond p 10 (cond (not q) 11 (cond r 12 0))) 0 → (p ≡ false) × (q ≡ true) × (r ≡ false)
-      go false true false is = (refl, refl, refl)
-      go false true true is = absurd (omega arith)
-      go false false r is = absurd (omega arith)
-      go true q r is = absurd (omega arith)
-
   pub accepted : wholeAnswer w n len last e size ≡ 0 → Accepted w n last e size
   accepted is =
       record {
         wordSize = front is .0;
         digestLength = front is .1;
-        extra = ltb-false 7 e (end (front is .2) .0);
-        low = eqb-true (last % 2 ^ (8 - e)) 0 (end (front is .2) .1);
-        room = ltb-false size receiptBytes (end (front is .2) .2);
+        end = ended last e size (front is .2);
       }
 
 module _ (w n : ℕ) (m : List ℕ) (last e : ℕ) (output : List ℕ) where
@@ -88,7 +75,7 @@ module _ (w n : ℕ) (m : List ℕ) (last e : ℕ) (output : List ℕ) where
       let tail : List ℕ = replicate (blockBytes (sizeOf w) - 1 - length m % blockBytes (sizeOf w)) 0 in
       let whole : m ++ p ∷ tail ≡ bytesOfBits (padded (sizeOf w) (messageBits m last e)) =
       ap (λ (b : ℕ). m ++ b ∷ tail) pad
-      ∙ sym (padded-bytes (sizeOf w) m last e (block-some w (a .wordSize)) bytes byte (a .extra) (a .low)) in (
+      ∙ sym (padded-bytes (sizeOf w) m last e (block-some w (a .wordSize)) bytes byte (a .end .extra) (a .end .low)) in (
         sym is,
         stored
             ∙ ap (λ (c : List ℕ). receipt w n (digest (sizeOf w) n c) ++ drop receiptBytes output)

@@ -8,10 +8,23 @@ pub const ACCEPTED: u32 = 0;
 pub const BAD_WORD_SIZE: u32 = 1;
 pub const BAD_LENGTH: u32 = 4;
 
+/// Bytes of a receipt.
+pub const RECEIPT_BYTES: usize = 68;
+
 mod c {
     extern "C" {
         pub fn lsh_block_forward(w: u64, chain: *mut u8, chain_len: usize, block: *const u8, block_len: usize) -> u32;
         pub fn lsh_block_backward(w: u64, chain: *mut u8, chain_len: usize, block: *const u8, block_len: usize) -> u32;
+        pub fn lsh_whole(
+            w: u64,
+            n: u64,
+            message: *const u8,
+            message_len: usize,
+            last: u8,
+            e: u64,
+            output: *mut u8,
+            output_len: usize,
+        ) -> u32;
     }
 }
 
@@ -28,6 +41,12 @@ pub fn block_backward(w: u64, chain: &mut [u8], block: &[u8]) -> u32 {
     unsafe { c::lsh_block_backward(w, chain.as_mut_ptr(), chain.len(), block.as_ptr(), block.len()) }
 }
 
+/// Writes the receipt of a message: its bytes, and then the top e bits of `last`.
+pub fn whole(w: u64, n: u64, message: &[u8], last: u8, e: u64, output: &mut [u8]) -> u32 {
+    // SAFETY: as in `block_forward`.
+    unsafe { c::lsh_whole(w, n, message.as_ptr(), message.len(), last, e, output.as_mut_ptr(), output.len()) }
+}
+
 /// Random bytes (splitmix64), the same in every run, so that a failure can be repeated.
 pub struct Random {
     state: u64,
@@ -36,6 +55,11 @@ pub struct Random {
 impl Random {
     pub fn new(seed: u64) -> Random {
         Random { state: seed }
+    }
+
+    /// A number from 0 to below the limit.
+    pub fn below(&mut self, limit: u64) -> u64 {
+        self.next() % limit
     }
 
     fn next(&mut self) -> u64 {

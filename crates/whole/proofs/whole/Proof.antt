@@ -14,9 +14,9 @@ whole-spec =
     (tie.spec
     (λ c κs. search needs)
     (λ c. refused-output _ _ (c .before .before .before .before .args .message .now) _ _ (c .before .before .before .before .args .output .now) (c .before .answer .ensures) (c .if1 .taken))
-    (λ c. record { fits = omega (arith, accepted _ _ (length (c .before .before .before .before .args .message .now)) _ _ (length (c .before .before .before .before .args .output .now)) (sym (c .before .answer .ensures) ∙ c .if1 .left) .extra) })
-    (λ c κs. (accepted _ _ (length (c .before .before .before .before .args .message .now)) _ _ (length (c .before .before .before .before .args .output .now)) (sym (c .before .answer .ensures) ∙ c .if1 .left) .extra, accepted _ _ (length (c .before .before .before .before .args .message .now)) _ _ (length (c .before .before .before .before .args .output .now)) (sym (c .before .answer .ensures) ∙ c .if1 .left) .low))
+    (λ c. record { fits = omega (arith, accepted _ _ (length (c .before .before .before .before .args .message .now)) _ _ (length (c .before .before .before .before .args .output .now)) (sym (c .before .answer .ensures) ∙ c .if1 .left) .end .extra) })
+    (λ c κs. (accepted _ _ (length (c .before .before .before .before .args .message .now)) _ _ (length (c .before .before .before .before .args .output .now)) (sym (c .before .answer .ensures) ∙ c .if1 .left) .end .extra, accepted _ _ (length (c .before .before .before .before .args .message .now)) _ _ (length (c .before .before .before .before .args .output .now)) (sym (c .before .answer .ensures) ∙ c .if1 .left) .end .low))
     (λ c κs. (accepted _ _ (length (c .before .before .before .before .before .args .message .now)) _ _ (length (c .before .before .before .before .before .args .output .now)) (sym (c .before .before .answer .ensures) ∙ c .before .if1 .left) .wordSize, accepted _ _ (length (c .before .before .before .before .before .args .message .now)) _ _ (length (c .before .before .before .before .before .args .output .now)) (sym (c .before .before .answer .ensures) ∙ c .before .if1 .left) .digestLength))
-    (λ c κs. (accepted _ _ (length (c .before .before .before .before .before .before .before .args .message .now)) _ _ (length (c .before .before .before .before .before .before .before .args .output .now)) (sym (c .before .before .before .before .answer .ensures) ∙ c .before .before .before .if1 .left) .wordSize, most _ _ (accepted _ _ (length (c .before .before .before .before .before .before .before .args .message .now)) _ _ (length (c .before .before .before .before .before .before .before .args .output .now)) (sym (c .before .before .before .before .answer .ensures) ∙ c .before .before .before .if1 .left) .digestLength), run-chain _ (c .before .before .before .before .before .before .before .args .n) _ (opening-chain _ (c .before .before .before .before .before .before .before .args .n) refl) (c .before .final-chain .ensures), accepted _ _ (length (c .before .before .before .before .before .before .before .args .message .now)) _ _ (length (c .before .before .before .before .before .before .before .args .output .now)) (sym (c .before .before .before .before .answer .ensures) ∙ c .before .before .before .if1 .left) .room))
+    (λ c κs. (accepted _ _ (length (c .before .before .before .before .before .before .before .args .message .now)) _ _ (length (c .before .before .before .before .before .before .before .args .output .now)) (sym (c .before .before .before .before .answer .ensures) ∙ c .before .before .before .if1 .left) .wordSize, most _ _ (accepted _ _ (length (c .before .before .before .before .before .before .before .args .message .now)) _ _ (length (c .before .before .before .before .before .before .before .args .output .now)) (sym (c .before .before .before .before .answer .ensures) ∙ c .before .before .before .if1 .left) .digestLength), run-chain _ (c .before .before .before .before .before .before .before .args .n) _ (opening-chain _ (c .before .before .before .before .before .before .before .args .n) refl) (c .before .final-chain .ensures), accepted _ _ (length (c .before .before .before .before .before .before .before .args .message .now)) _ _ (length (c .before .before .before .before .before .before .before .args .output .now)) (sym (c .before .before .before .before .answer .ensures) ∙ c .before .before .before .if1 .left) .end .room))
     (λ c. search needs)
     (λ c. accepted-output _ _ (c .before .before .before .before .before .before .before .before .before .before .args .message .now) _ _ (c .before .before .before .before .before .before .before .before .before .before .args .output .now) (sym (c .before .before .before .before .before .before .before .answer .ensures) ∙ c .before .before .before .before .before .before .if1 .left) (λ i. c .before .before .before .before .before .before .before .before .before .shared-slice-known .given i .fits) (c .before .before .before .before .before .before .before .before .before .before .fits .last .fits) (c .before .before .before .before .before .pad-byte .ensures) (c .before .before .before .before .final-chain .ensures) (c .before .before .write-receipt .ensures)))

@@ -1,0 +1,4 @@
+-- Laws of Close.
+pub mod HeldBytes
+pub mod Answers
+pub mod Messages

@@ -1,0 +1,50 @@
+// Close: the receipt of the bytes of a record.
+ghost use mathlib.Core.Path.{_≡_};
+ghost use mathlib.Core.Bool.{true};
+ghost use mathlib.Core.List.{_∷_, _++_};
+ghost use Prim.Native.Nat.{_-_};
+ghost use lib.ListN.{length, replicate};
+ghost use Rattle.lsh.specs.WordSize.{sizeOf, blockBytes};
+ghost use Rattle.lsh.specs.Block.{forwards};
+ghost use Rattle.lsh.specs.Padding.{blocksOf};
+ghost use Rattle.record.specs.Record.{sound, heldBytes};
+ghost use Rattle.close.specs.Close.{closeAnswer, closeOutput};
+
+// Writes the receipt of the record's bytes and the top e bits of the last byte, if the answer is 0. The record is not changed, so
+// more can be appended to it.
+pub fn close(r: record::Record, last: u8, e: u64, output: &mut [u8]) -> u32
+    ensures { λ a. ⌜ (a ≡ closeAnswer r last e (length (now (output .entry)))) × (now (output .exit) ≡ closeOutput r last e (now (output .entry))) ⌝ }
+{
+    let a = answer(r, last, e, output.len());
+    if a != 0 {
+        return a;
+    }
+    let w = r.w;
+    let n = r.n;
+    let t = final_chain(r, receipt::pad_byte(last, e as u32));
+    receipt::write_receipt(w, n, t, output);
+    0
+}
+
+// The answer to a call. Nothing is hashed before it is known.
+fn answer(r: record::Record, last: u8, e: u64, size: usize) -> u32
+    ensures { λ a. ⌜ a ≡ closeAnswer r last e size ⌝ }
+{
+    if !record::is_sound(r) {
+        return 3;
+    }
+    receipt::end_answer(last, e, size)
+}
+
+// The chain after the last block: the bytes held, padded from the byte pad on.
+fn final_chain(r: record::Record, pad: u8) -> [u64; 16]
+    requires { ⌜ sound r ≡ true ⌝ }
+    ensures { λ t. ⌜ t ≡ forwards (sizeOf (r .w)) (blocksOf (sizeOf (r .w)) (heldBytes r ++ pad ∷ replicate (blockBytes (sizeOf (r .w)) - 1 - length (heldBytes r)) 0)) (r .chain) ⌝ }
+{
+    let w = r.w;
+    let total = r.total;
+    let chain = r.chain;
+    let held = r.held;
+    let at = (total % (4 * w)) as usize;
+    receipt::last_chain(w, chain, &held[..at], pad)
+}

@@ -1,0 +1,59 @@
+-- The record of a byte string within the limit is sound, and it holds the bytes after the last whole block.
+-- Assumes nothing.
+use mathlib.Core.Path.{_≡_, refl, ap, _∙_, subst}
+use mathlib.Core.Bool.{true}
+use mathlib.Core.List.{List}
+use Prim.Native.Nat.{ℕ, zero, suc, _-_, _%_, _^_, _≤_, _<_}
+use borrow.Author.Tests.{le-leb}
+use lib.ListN.{length, drop, replicate}
+use lib.Seq.{take-at, drop-at}
+use Rattle.lsh.specs.Tabulate.{at}
+use Rattle.lsh.specs.WordSize.{WordSize, isWordSize, sizeOf, blockBytes}
+use Rattle.lsh.specs.Block.{Chain, forwards}
+use Rattle.lsh.specs.Opening.{opening}
+use Rattle.lsh.specs.Padding.{blocksOf, restOf}
+use Rattle.lsh.proofs.Figures.{amounts, bits-are, block-some}
+use Rattle.lsh.proofs.Block.{forward-chain}
+use Rattle.lsh.proofs.Blocks.{forwards-chain}
+use Rattle.lsh.proofs.Padding.{length-rest}
+use Rattle.runs.specs.Limits.{isDigestLength, limit}
+use Rattle.record.specs.Record.{heldOf, allBelow, allZero, sound, heldBytes, recordOf}
+use Rattle.record.proofs.Lists.{all-below}
+
+all-zero : (k : ℕ) → allZero (replicate k 0) ≡ true
+all-zero zero = refl
+all-zero (suc k) = all-zero k
+
+module _ (w n : ℕ) (m : List ℕ) (word : isWordSize w ≡ true) where
+  abbrev Z : WordSize
+  Z = sizeOf w
+
+  abbrev chain : List ℕ
+  chain = forwards Z (blocksOf Z m) (opening Z n)
+
+  opening-is : Chain Z (opening Z n)
+  unfolding opening
+  opening-is = forward-chain Z (amounts w) _ _
+
+  chain-is : Chain Z chain
+  chain-is = forwards-chain Z (amounts w) (blocksOf Z m) (opening Z n) opening-is
+
+  below : allBelow (2 ^ w) chain ≡ true
+  below = all-below (2 ^ w) chain (λ l. subst (λ (v : ℕ). at chain l < 2 ^ v) (bits-are w word) (chain-is .below l))
+
+  size : length (restOf Z m) ≡ length m % blockBytes Z
+  size = length-rest Z (block-some w word) m
+
+  pub held-record : heldBytes (recordOf w n m) ≡ restOf Z m
+  unfolding heldBytes recordOf heldOf
+  held-record = take-at (restOf Z m) (replicate (256 - length (restOf Z m)) 0) (length m % blockBytes Z) size
+
+  zero-after : allZero (drop (length m % blockBytes Z) (heldOf (restOf Z m))) ≡ true
+  unfolding heldOf
+  zero-after =
+      ap allZero (drop-at (restOf Z m) (replicate (256 - length (restOf Z m)) 0) (length m % blockBytes Z) size)
+      ∙ all-zero (256 - length (restOf Z m))
+
+  pub record-sound : isDigestLength w n ≡ true → length m ≤ limit → sound (recordOf w n m) ≡ true
+  unfolding sound recordOf
+  record-sound digest few = rw (word, digest, le-leb (length m) limit few, below) zero-after

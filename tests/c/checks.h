@@ -1,0 +1,98 @@
+/* What the programs of this folder share: checks that are counted, random numbers, and buffers between guard bytes.
+ * A program defines two names before it includes this file: PROGRAM, its own name as a string, and LARGEST, the bytes
+ * of the largest buffer that it lends. */
+#ifndef CHECKS_H
+#define CHECKS_H
+
+#include <stdarg.h>
+#include <stdbool.h>
+#include <stdint.h>
+#include <stdio.h>
+#include <stdlib.h>
+#include <string.h>
+
+#define COUNT(array) (sizeof(array) / sizeof((array)[0]))
+
+#define SHOWN_FAILURES 20 /* further ones are only counted */
+
+/* ---- checks ---- */
+
+static unsigned long passed, failed;
+
+__attribute__((format(printf, 2, 3))) static void check(bool holds, const char *format, ...)
+{
+    if (holds) {
+        passed++;
+        return;
+    }
+    if (failed++ < SHOWN_FAILURES) {
+        va_list words;
+        va_start(words, format);
+        fputs(PROGRAM ": FAILED: ", stdout);
+        vprintf(format, words);
+        putchar('\n');
+        va_end(words);
+    }
+}
+
+/* Prints the verdict; the exit status of the program. */
+static int report(void)
+{
+    if (failed != 0) {
+        printf(PROGRAM ": %lu of %lu checks FAILED\n", failed, passed + failed);
+        return EXIT_FAILURE;
+    }
+    printf(PROGRAM ": %lu checks passed\n", passed);
+    return EXIT_SUCCESS;
+}
+
+/* splitmix64: the same numbers in every run, so that a failure can be repeated. */
+static uint64_t next_random(void)
+{
+    static uint64_t state = 1;
+    uint64_t z = state += 0x9e3779b97f4a7c15u;
+    z = (z ^ z >> 30) * 0xbf58476d1ce4e5b9u;
+    z = (z ^ z >> 27) * 0x94d049bb133111ebu;
+    return z ^ z >> 31;
+}
+
+/* ---- buffers ---- */
+
+#define GUARD 64     /* guard bytes before and after a buffer, at least */
+#define ALIGNMENT 16 /* a buffer starts at any distance from a multiple of this */
+#define GUARDED (GUARD + ALIGNMENT + LARGEST + GUARD)
+
+/* A buffer to lend, the guard bytes around it, and a copy of all of them. */
+struct guarded {
+    _Alignas(ALIGNMENT) uint8_t bytes[GUARDED];
+    uint8_t copy[GUARDED];
+    size_t start; /* of the buffer, in bytes */
+};
+
+static uint8_t *buffer(struct guarded *guarded)
+{
+    return guarded->bytes + guarded->start;
+}
+
+static void take_copy(struct guarded *guarded)
+{
+    memcpy(guarded->copy, guarded->bytes, GUARDED);
+}
+
+static void fill(struct guarded *guarded)
+{
+    guarded->start = GUARD + next_random() % ALIGNMENT;
+    for (size_t i = 0; i < GUARDED; i++) {
+        guarded->bytes[i] = (uint8_t)next_random();
+    }
+}
+
+/* Whether all bytes are those of the copy, except for the first `writable` bytes of the buffer. */
+static bool kept_except(const struct guarded *guarded, size_t writable)
+{
+    size_t end = guarded->start + writable;
+    return memcmp(guarded->bytes, guarded->copy, guarded->start) == 0
+        && memcmp(guarded->bytes + end, guarded->copy + end, GUARDED - end) == 0;
+}
+
+#endif

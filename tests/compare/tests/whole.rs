@@ -1,0 +1,127 @@
+//! The receipts of lsh_whole against the digests of lsh_ref.
+
+mod receipts;
+
+use compare::Random;
+use lsh_ref::Word;
+use receipts::{assert_receipt, Arguments};
+
+const MIB: usize = 1 << 20;
+
+/// Compares on a random message of the given length, followed by the top e bits of `last`.
+fn compare_message<W: Word>(n: u64, message_len: usize, last: u8, e: u64, random: &mut Random) {
+    let message = random.bytes(message_len);
+    let digest = lsh_ref::hash_bits::<W>(n, &message, last, e as u32);
+    assert_receipt(&Arguments { w: W::BITS as u64, n, message: &message, last, e }, &digest, random);
+}
+
+fn longest_digest<W: Word>() -> u64 {
+    8 * W::BITS as u64
+}
+
+fn random_digest_length<W: Word>(random: &mut Random) -> u64 {
+    1 + random.below(longest_digest::<W>())
+}
+
+/// The byte whose top e bits are the number `bits`; its other bits are 0.
+fn last_byte(bits: u64, e: u64) -> u8 {
+    (bits << (8 - e)) as u8
+}
+
+fn random_last_byte(e: u64, random: &mut Random) -> u8 {
+    last_byte(random.below(1 << e), e)
+}
+
+/// Message lengths next to the ends of blocks, where the padding takes one block more.
+fn edge_lengths<W: Word>() -> Vec<usize> {
+    let block = W::BLOCK_BYTES;
+    (0..=1).chain(block - 2..=block + 2).chain(2 * block - 1..=2 * block + 1).collect()
+}
+
+fn compare_digest_lengths_and_extra_bits<W: Word>() {
+    let mut random = Random::new(W::BITS as u64);
+    for n in 1..=longest_digest::<W>() {
+        for e in 0..=7 {
+            for message_len in edge_lengths::<W>() {
+                let last = random_last_byte(e, &mut random);
+                compare_message::<W>(n, message_len, last, e, &mut random);
+            }
+        }
+    }
+}
+
+#[test]
+fn digest_lengths_and_extra_bits_32() {
+    compare_digest_lengths_and_extra_bits::<u32>();
+}
+
+#[test]
+fn digest_lengths_and_extra_bits_64() {
+    compare_digest_lengths_and_extra_bits::<u64>();
+}
+
+/// Every last byte that goes with each e.
+fn compare_last_bytes<W: Word>() {
+    let mut random = Random::new(W::BITS as u64);
+    for e in 0..=7 {
+        for bits in 0..1 << e {
+            for message_len in edge_lengths::<W>() {
+                let n = random_digest_length::<W>(&mut random);
+                compare_message::<W>(n, message_len, last_byte(bits, e), e, &mut random);
+            }
+        }
+    }
+}
+
+#[test]
+fn last_bytes_32() {
+    compare_last_bytes::<u32>();
+}
+
+#[test]
+fn last_bytes_64() {
+    compare_last_bytes::<u64>();
+}
+
+fn compare_random_bits<W: Word>(message_len: usize, random: &mut Random) {
+    let n = random_digest_length::<W>(random);
+    let e = random.below(8);
+    let last = random_last_byte(e, random);
+    compare_message::<W>(n, message_len, last, e, random);
+}
+
+/// Every length up to eight blocks.
+fn compare_message_lengths<W: Word>() {
+    let mut random = Random::new(W::BITS as u64);
+    for message_len in 0..=8 * W::BLOCK_BYTES {
+        compare_random_bits::<W>(message_len, &mut random);
+    }
+}
+
+#[test]
+fn message_lengths_32() {
+    compare_message_lengths::<u32>();
+}
+
+#[test]
+fn message_lengths_64() {
+    compare_message_lengths::<u64>();
+}
+
+fn compare_long_messages<W: Word>() {
+    let mut random = Random::new(W::BITS as u64);
+    for message_len in [MIB - 1, MIB, MIB + 3, 16 * MIB + 100] {
+        compare_message::<W>(longest_digest::<W>(), message_len, 0, 0, &mut random);
+        compare_random_bits::<W>(message_len, &mut random);
+    }
+}
+
+#[test]
+fn long_messages_32() {
+    compare_long_messages::<u32>();
+}
+
+#[test]
+fn long_messages_64() {
+    compare_long_messages::<u64>();
+}
