@@ -1,7 +1,7 @@
 -- What an answer says of the word size and the lengths, and the chain bytes after each answer.
 -- Assumes nothing.
 use mathlib.Core.Path.{_≡_, refl, sym, ap, _∙_}
-use mathlib.Core.Bool.{Bool, true, false, not, _&&_, cond, false≢true}
+use mathlib.Core.Bool.{Bool, true, false, not, _&&_, cond}
 use mathlib.Core.List.{List}
 use Prim.Native.Nat.{ℕ}
 use native.Mathlib.Omega.{arith}
@@ -10,6 +10,7 @@ use lib.Dec.{eqb}
 use lib.ListN.{length}
 use Rattle.lsh.specs.WordSize.{WordSize, isWordSize, sizeOf, chainBytes, blockBytes}
 use Rattle.lsh.specs.Bytes.{wordsOf, bytesOf}
+use Rattle.lsh.proofs.Tests.{and-true}
 use Rattle.block_call.specs.BlockCall.{areLengths, blockAnswer, runBytes}
 
 -- an accepted call: w is a word size, and the lengths are right
@@ -17,10 +18,6 @@ pub record Accepted (w c b : ℕ) : Type 0 where
   pub size : isWordSize w ≡ true
   pub chain : c ≡ chainBytes (sizeOf w)
   pub block : b ≡ blockBytes (sizeOf w)
-
-and-true : (p q : Bool) → p && q ≡ true → (p ≡ true) × (q ≡ true)
-and-true true q e = (refl, e)
-and-true false q e = absurd (false≢true e)
 
 module _ (w c b : ℕ) where
   tests : blockAnswer w c b ≡ 0 → (isWordSize w ≡ true) × (areLengths (sizeOf w) c b ≡ true)

@@ -4,7 +4,7 @@ use mathlib.Core.Path.{_≡_, refl, sym, ap, ap₂, _∙_}
 use mathlib.Core.Bool.{true}
 use mathlib.Core.List.{List, [], _∷_, _++_}
 use Prim.Native.Nat.{ℕ, zero, suc, _+_, _-_, _*_, _≤_, _<_}
-use native.Mathlib.Nat.{sub-zero, zero-sub, suc-sub-suc, zero-add}
+use native.Mathlib.Nat.{zero-add}
 use native.Mathlib.Omega.{arith}
 use lib.ListN.{length, take, drop, set, replicate, length-replicate, length-append}
 use lib.Seq.{sets, sets-eq, set-append-seam, take-append-add}
@@ -13,12 +13,7 @@ use Rattle.lsh.specs.WordSize.{isWordSize, sizeOf, blockBytes}
 use Rattle.lsh.proofs.Tabulate.{tabulate-ext}
 use Rattle.lsh.proofs.Figures.{block-is, block-most}
 use Rattle.engine.proofs.Places.{Placed, stored-front}
-use Rattle.runs.proofs.Sizes.{take-replicate}
-
-drop-replicate : (k n a : ℕ) → drop k (replicate n a) ≡ replicate (n - k) a
-drop-replicate zero n a = rw sub-zero
-drop-replicate (suc k) zero a = rw zero-sub
-drop-replicate (suc k) (suc n) a = rw suc-sub-suc (drop-replicate k n a)
+use Rattle.runs.proofs.Zeros.{take-replicate, drop-replicate}
 
 -- stored into zeros
 after-zeros : (s : List ℕ) (p : ℕ) {m : List ℕ} → length s < 256 → m ≡ sets (replicate 256 0) 0 s

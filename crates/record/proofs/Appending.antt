@@ -14,11 +14,12 @@ use Rattle.lsh.specs.Padding.{blocksOf, restOf}
 use Rattle.lsh.proofs.Figures.{block-is, block-some}
 use Rattle.lsh.proofs.Blocks.{forwards-append}
 use Rattle.lsh.proofs.Padding.{blocks-append, rest-none, blocks-short, rest-short, rest-first}
+use Rattle.runs.proofs.Zeros.{drop-replicate}
 use Rattle.record.specs.declared.Record.{Record}
 use Rattle.record.specs.declared.Outcome.{Outcome}
 use Rattle.record.specs.Record.{heldOf, sound, heldBytes}
 use Rattle.record.specs.Calls.{appended, appendAccepted}
-use Rattle.record.proofs.Lists.{drop-replicate, zero-all}
+use Rattle.record.proofs.Lists.{zero-all}
 use Rattle.record.proofs.Sound.{sounds, bytes-most}
 use Rattle.record.proofs.Held.{fill-lt, held-length, total-is}
 

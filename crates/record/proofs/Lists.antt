@@ -1,21 +1,19 @@
 -- Lists tested number by number, and lists of zeros.
 -- Assumes nothing.
 use mathlib.Core.Path.{_≡_, refl, ap₂}
-use mathlib.Core.Bool.{Bool, true, false, _&&_, false≢true}
+use mathlib.Core.Bool.{true, _&&_}
 use mathlib.Core.List.{List, [], _∷_, _++_}
 use Prim.Native.Nat.{ℕ, zero, suc, _+_, _-_, _<_}
-use native.Mathlib.Nat.{zero-add, sub-zero, zero-sub, suc-sub-suc, le-refl}
+use native.Mathlib.Nat.{zero-add, le-refl}
 use native.Mathlib.Numerals.{add-one}
 use lib.Dec.{eqb, ltb}
 use lib.ListN.{length, drop, getD, replicate}
 use lib.Seq.{drop-cons, take-all, paste}
 use borrow.Author.Tests.{eqb-true, ltb-true, lt-ltb}
 use Rattle.lsh.specs.Tabulate.{at}
+use Rattle.lsh.proofs.Tests.{and-true}
+use Rattle.runs.proofs.Zeros.{drop-replicate}
 use Rattle.record.specs.Record.{allBelow, allZero}
-
-pub and-true : (p q : Bool) → p && q ≡ true → (p ≡ true) × (q ≡ true)
-and-true true q e = (refl, e)
-and-true false q e = absurd (false≢true e)
 
 -- the test of the places from i on, by that of place i
 pub below-at : (m : ℕ) (s : List ℕ) (i : ℕ) → i < length s → allBelow m (drop i s) ≡ (ltb (getD s i 0) m && allBelow m (drop (i + 1) s))
@@ -39,11 +37,6 @@ zero-all [] e = refl
 zero-all (x ∷ xs) e =
     let p : (eqb x 0 ≡ true) × (allZero xs ≡ true) = and-true (eqb x 0) (allZero xs) e in
     ap₂ (λ (y : ℕ) (ys : List ℕ). y ∷ ys) (eqb-true x 0 (p .0)) (zero-all xs (p .1))
-
-pub drop-replicate : (k n a : ℕ) → drop k (replicate n a) ≡ replicate (n - k) a
-drop-replicate zero n a = rw sub-zero
-drop-replicate (suc k) zero a = rw zero-sub
-drop-replicate (suc k) (suc n) a = rw suc-sub-suc (drop-replicate k n a)
 
 -- a string copied into zeros
 pub into-zeros : (n : ℕ) (s : List ℕ) → paste (replicate n 0) 0 s (length s) ≡ s ++ replicate (n - length s) 0

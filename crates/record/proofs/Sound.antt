@@ -15,7 +15,8 @@ use Rattle.lsh.proofs.Figures.{by-size, bits-are, block-is, block-some, block-m
 use Rattle.runs.specs.Limits.{isDigestLength, limit}
 use Rattle.record.specs.declared.Record.{Record}
 use Rattle.record.specs.Record.{allBelow, allZero, sound}
-use Rattle.record.proofs.Lists.{and-true, at-below}
+use Rattle.lsh.proofs.Tests.{and-true}
+use Rattle.record.proofs.Lists.{at-below}
 
 pub record Sound (r : Record) : Type 0 where
   pub word : isWordSize (r .w) ≡ true

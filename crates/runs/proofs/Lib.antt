@@ -1,2 +1,4 @@
 pub mod Sizes
+pub mod Zeros
+pub mod Limits
 pub mod Published

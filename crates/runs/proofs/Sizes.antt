@@ -1,12 +1,11 @@
 -- A run by its word size.
 -- Assumes nothing.
-use mathlib.Core.Path.{_≡_, refl, sym, ap, _∙_, subst}
+use mathlib.Core.Path.{_≡_, sym, ap, _∙_, subst}
 use mathlib.Core.Bool.{true}
-use mathlib.Core.List.{List, _∷_}
-use Prim.Native.Nat.{ℕ, zero, suc, _*_, _/_, _≤_, _<_}
-use native.Mathlib.Nat.{le-of-suc-le-suc, div-eq-of-lt}
-use native.Mathlib.Omega.{arith}
-use lib.ListN.{length, take, replicate}
+use mathlib.Core.List.{List}
+use Prim.Native.Nat.{ℕ, _*_, _/_, _<_}
+use native.Mathlib.Nat.{div-eq-of-lt}
+use lib.ListN.{length}
 use Rattle.lsh.specs.WordSize.{WordSize, isWordSize, sizeOf, blockBytes}
 use Rattle.lsh.specs.Block.{forwards}
 use Rattle.lsh.specs.Padding.{blocksOf}
@@ -28,8 +27,3 @@ unfolding forwards
 run-none w s t size short =
     let less : length s < blockBytes (sizeOf w) = rw (block-is w size) short in
     (rw (blocks-short (sizeOf w) (block-some w size) s less), sym (div-eq-of-lt less))
-
-pub take-replicate : (k n a : ℕ) → k ≤ n → take k (replicate n a) ≡ replicate k a
-take-replicate zero n a h = refl
-take-replicate (suc k) zero a h = absurd (omega arith)
-take-replicate (suc k) (suc n) a h = ap (λ (r : List ℕ). a ∷ r) (take-replicate k n a (le-of-suc-le-suc h))

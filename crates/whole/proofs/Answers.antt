@@ -23,15 +23,6 @@ use Rattle.receipt.specs.Ending.{messageBits, endAnswer}
 use Rattle.receipt.proofs.Ending.{Ended, ended}
 use Rattle.whole.specs.Whole.{wholeAnswer, wholeOutput}
 
--- a digest length is at most 8w
-pub most : (w n : ℕ) → isDigestLength w n ≡ true → n ≤ 8 * w
-unfolding isDigestLength
-most w n e = leb-true n (8 * w) (go (not (eqb n 0)) (leb n (8 * w)) e)
-  where
-    go : (p q : Bool) → p && q ≡ true → q ≡ true
-    go true q e = e
-    go false q e = absurd (false≢true e)
-
 -- an accepted call
 pub record Accepted (w n last e size : ℕ) : Type 0 where
   pub wordSize : isWordSize w ≡ true

@@ -8,7 +8,7 @@ use mir.Val.{Fits}
 use borrow.Author.Needs.{needs}
 use Rattle.lsh.proofs.Bytes.{Bytes}
 use Rattle.record.proofs.Sound.{Sound, sounds}
-use Rattle.whole.proofs.Answers.{most}
+use Rattle.runs.proofs.Limits.{digest-most}
 use Rattle.whole.proofs.FinalChain.{run-chain}
 use Rattle.close.proofs.HeldBytes.{chain-sound}
 use Rattle.close.proofs.Answers.{Accepted, accepted, refused-output, accepted-output}
@@ -43,7 +43,7 @@ write-receipt-requires c κs =
     let z = p .before .before .before in
     let s : Sound (z .args .r) = is-sound p in (
       s .word,
-      most (z .args .r .w) (z .args .r .n) (s .digestLength),
+      digest-most (z .args .r .w) (z .args .r .n) (s .digestLength),
       run-chain (z .args .r .w) (z .args .r .n) _ (chain-sound (z .args .r) (passed p .taken) (words z)) (c .before .final-chain .ensures),
       passed p .end .room,
     )

@@ -10,7 +10,7 @@ use Rattle.lsh.specs.Opening.{opening}
 use Rattle.runs.specs.Limits.{isDigestLength}
 use Rattle.record.specs.Record.{heldOf}
 use Rattle.record.specs.Calls.{refused, opened, openCall}
-use Rattle.record.proofs.Lists.{and-true}
+use Rattle.runs.proofs.Limits.{digest-most}
 use Rattle.record.proofs.open.Statement.{statement}
 use Rattle.record.proofs.open.Tie as tie
 
@@ -19,10 +19,6 @@ word-passed c = sym (c .before .is-word-size .ensures) ∙ not-false _ (c .if1 .
 
 digest-passed : (c : tie.Else2) → isDigestLength (c .before .before .before .before .args .w) (c .before .before .before .before .args .n) ≡ true
 digest-passed c = sym (c .before .is-digest-length .ensures) ∙ not-false _ (c .if2 .left)
-
-digest-most : (w n : ℕ) → isDigestLength w n ≡ true → n ≤ 8 * w
-unfolding isDigestLength
-digest-most w n e = leb-true n (8 * w) (and-true (not (eqb n 0)) (leb n (8 * w)) e .1)
 
 returns : tie.Need-returns
 unfolding openCall refused

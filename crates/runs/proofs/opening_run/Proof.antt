@@ -12,7 +12,7 @@ use Rattle.lsh.specs.Opening.{opening}
 use Rattle.lsh.specs.Padding.{blocksOf}
 use Rattle.lsh.proofs.Figures.{block-is, block-most}
 use Rattle.lsh.proofs.Opening.{firstChain, first-chain, opening-run}
-use Rattle.runs.proofs.Sizes.{take-replicate}
+use Rattle.runs.proofs.Zeros.{take-replicate}
 use Rattle.runs.proofs.opening_run.Statement.{statement}
 use Rattle.runs.proofs.opening_run.Tie as tie
 

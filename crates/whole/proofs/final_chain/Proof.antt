@@ -4,7 +4,7 @@ use native.Mathlib.Omega.{arith}
 use borrow.Author.Needs.{needs}
 use Rattle.lsh.proofs.Figures.{block-is, block-most}
 use Rattle.whole.proofs.FinalChain.{opening-chain, run-chain, inside, rest-short, last-run}
-use Rattle.whole.proofs.Answers.{most}
+use Rattle.runs.proofs.Limits.{digest-most}
 use Rattle.whole.proofs.final_chain.Statement.{statement}
 use Rattle.whole.proofs.final_chain.Tie as tie
 
@@ -12,7 +12,7 @@ pub final-chain-spec : {M : Type 1} → statement M
 final-chain-spec =
     tie.close
     (tie.spec
-    (λ c κs. (c .before .pre .0, most _ _ (c .before .pre .1)))
+    (λ c κs. (c .before .pre .0, digest-most _ _ (c .before .pre .1)))
     (λ c κs. (c .before .before .pre .0, opening-chain _ _ (c .opening .ensures)))
     (λ c. record { fits = omega (arith, block-is _ (c .before .before .before .before .pre .0), block-most _ (c .before .before .before .before .pre .0)) })
     (λ c. record { fits = omega (arith, inside _ (c .before .before .before .before .before .args .n) (c .before .before .before .before .before .args .message .now) (c .before .before .before .before .before .pre .0) (c .before .before .forward .ensures .1)) })
