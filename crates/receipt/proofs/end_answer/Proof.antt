@@ -1,5 +1,4 @@
 -- `receipt::end_answer` meets its contract. Assumes nothing.
-use mathlib.Core.Bool.{not, cond}
 use mathlib.Core.Path.{sym, _∙_}
 use borrow.Author.Needs.{needs}
 use borrow.Author.Tests.{lt-ltb, le-ltb, eq-eqb, ne-eqb}

@@ -1,10 +1,8 @@
 -- `record::open` meets its contract. Assumes nothing.
 use mathlib.Core.Path.{_≡_, sym, _∙_}
-use mathlib.Core.Bool.{true, not}
-use Prim.Native.Nat.{ℕ, _*_, _≤_}
-use lib.Dec.{eqb, leb}
+use mathlib.Core.Bool.{true}
 use borrow.Author.Needs.{needs}
-use borrow.Author.Tests.{leb-true, not-true, not-false}
+use borrow.Author.Tests.{not-true, not-false}
 use Rattle.lsh.specs.WordSize.{isWordSize}
 use Rattle.lsh.specs.Opening.{opening}
 use Rattle.runs.specs.Limits.{isDigestLength}

@@ -1,5 +1,4 @@
 -- `runs::is_digest_length` meets its contract. Assumes nothing.
-use mathlib.Core.Bool.{not, _&&_}
 use native.Mathlib.Omega.{arith}
 use borrow.Author.Tests.{ne-eqb}
 use Rattle.lsh.proofs.Figures.{block-is, block-most}

@@ -1,5 +1,4 @@
 -- `runs::is_word_size` meets its contract. Assumes nothing.
-use mathlib.Core.Bool.{_||_}
 use borrow.Author.Tests.{ne-eqb}
 use Rattle.lsh.specs.WordSize.{isWordSize}
 use Rattle.runs.proofs.is_word_size.Statement.{statement}

@@ -2,7 +2,6 @@
 use mathlib.Core.Path.{refl, _∙_}
 use Prim.Native.Nat.{_-_}
 use native.Mathlib.Omega.{arith}
-use borrow.Author.Needs.{needs}
 use Rattle.lsh.specs.Tabulate.{at}
 use Rattle.lsh.proofs.Tabulate.{tabulate-ext}
 use Rattle.engine.proofs.Places.{Placed, placed-none, filled-more, filled-all}

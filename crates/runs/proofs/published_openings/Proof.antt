@@ -1,6 +1,5 @@
 -- `runs::published_openings` meets its contract: each stored chain is its run, by one computation over the table. Assumes nothing.
 use mathlib.Core.Path.{refl}
-use mathlib.Core.List.{_++_}
 use Rattle.lsh.specs.Tabulate.{tabulate, tabulateFrom}
 use Rattle.lsh.specs.Word.{add, turn, rotateLeft, xor}
 use Rattle.lsh.specs.WordSize.{lsh256, lsh512, sizeOf, alpha, beta, gamma, tau, sigma}
