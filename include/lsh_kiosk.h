@@ -17,13 +17,13 @@ extern "C" {
 
 /* What a call answers. */
 #define LSH_ACCEPTED 0u
-#define LSH_BAD_WORD_SIZE 1u /* w is neither 32 nor 64 */
+#define LSH_BAD_WORD_SIZE 1u     /* w is neither 32 nor 64 */
 #define LSH_BAD_DIGEST_LENGTH 2u /* n is 0 or above 8w */
-#define LSH_BAD_LENGTH 4u /* a chain that is not 2w bytes or a block that is not 4w bytes */
-#define LSH_TOO_LONG 5u /* a message of more than 2^40 bytes */
-#define LSH_BAD_EXTRA_BITS 10u /* e is above 7 */
-#define LSH_BAD_LAST_BYTE 11u /* one of the low 8 - e bits of the last byte is set */
-#define LSH_SHORT_OUTPUT 12u /* an output of less than 68 bytes */
+#define LSH_BAD_LENGTH 4u        /* a chain that is not 2w bytes or a block that is not 4w bytes */
+#define LSH_TOO_LONG 5u          /* a message of more than 2^40 bytes */
+#define LSH_BAD_EXTRA_BITS 10u   /* e is above 7 */
+#define LSH_BAD_LAST_BYTE 11u    /* one of the low 8 - e bits of the last byte is set */
+#define LSH_SHORT_OUTPUT 12u     /* an output of less than LSH_RECEIPT_BYTES bytes */
 
 /* Bytes of a chain and of a block, by word size. */
 #define LSH_CHAIN_BYTES(w) (2 * (w))

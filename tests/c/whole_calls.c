@@ -80,7 +80,7 @@ static void check_layout(const struct arguments *given, const uint8_t *receipt, 
 
 /* Makes one call and checks its answer, that it writes nothing but the receipt, and that only if it accepts, and the
  * receipt's layout. A message may be said to be longer than its memory if the call has to be refused: a refused call
- * reads nothing. An output may always be said to be longer, as no call uses more of it than a receipt's bytes. */
+ * reads nothing. */
 static void make_call(const struct arguments *given, struct guarded *message, struct guarded *output)
 {
     uint32_t right = right_answer(given);
@@ -219,7 +219,7 @@ static const uint64_t tried_extra_bits[] = {
 };
 static const uint8_t tried_last_bytes[] = {0, 0x01, 0x10, 0x80, 0xf0, 0xff};
 static const size_t tried_output_lengths[] = {
-    0, 1, LSH_RECEIPT_BYTES - 1, LSH_RECEIPT_BYTES, LSH_RECEIPT_BYTES + 1, TWO_TO_32 + LSH_RECEIPT_BYTES - 1, SIZE_MAX,
+    0, 1, LSH_RECEIPT_BYTES - 1, LSH_RECEIPT_BYTES, LSH_RECEIPT_BYTES + 1, LARGEST,
 };
 
 static void try_last_bits_and_outputs(struct arguments given)
