@@ -1,6 +1,6 @@
 //! The implementations that are timed against each other.
 
-use compare::{block_backward, block_forward, ACCEPTED};
+use compare::{block_backward, block_forward, whole, ACCEPTED, RECEIPT_BYTES};
 use lsh_ref::Word;
 
 pub const MODULE: &str = "this module";
@@ -8,20 +8,20 @@ pub const MODULE_BY_BLOCK: &str = "this module, a call for each block";
 pub const REFERENCE: &str = "lsh_ref";
 pub const CRYPTOPP: &str = "Crypto++";
 
-/// Runs all blocks of a message on a chain: forward in order, or backward from the last.
-pub type Run = fn(chain: &mut [u8], message: &[u8]);
+/// Runs all blocks of the input on a chain: forward in order, or backward from the last.
+pub type Run = fn(chain: &mut [u8], input: &[u8]);
 
-pub struct Peer {
+pub struct BlockPeer {
     pub name: &'static str,
     pub forward: Run,
     pub backward: Run,
 }
 
-pub fn peers<W: Word>() -> [Peer; 3] {
+pub fn block_peers<W: Word>() -> [BlockPeer; 3] {
     [
-        Peer { name: MODULE, forward: module_forward::<W>, backward: module_backward::<W> },
-        Peer { name: MODULE_BY_BLOCK, forward: calls_forward::<W>, backward: calls_backward::<W> },
-        Peer { name: REFERENCE, forward: reference_forward::<W>, backward: reference_backward::<W> },
+        BlockPeer { name: MODULE, forward: module_forward::<W>, backward: module_backward::<W> },
+        BlockPeer { name: MODULE_BY_BLOCK, forward: calls_forward::<W>, backward: calls_backward::<W> },
+        BlockPeer { name: REFERENCE, forward: reference_forward::<W>, backward: reference_backward::<W> },
     ]
 }
 
@@ -33,55 +33,95 @@ mod module {
         pub fn bench_backward256(chain: *mut u8, chain_len: usize, blocks: *const u8, blocks_len: usize) -> u32;
         pub fn bench_forward512(chain: *mut u8, chain_len: usize, blocks: *const u8, blocks_len: usize) -> u32;
         pub fn bench_backward512(chain: *mut u8, chain_len: usize, blocks: *const u8, blocks_len: usize) -> u32;
+        pub fn bench_append(w: u64, n: u64, piece: *const u8, piece_len: usize) -> u64;
     }
 }
 
-fn module_forward<W: Word>(chain: &mut [u8], message: &[u8]) {
-    module_run(if W::BITS == 32 { module::bench_forward256 } else { module::bench_forward512 }, chain, message);
+fn module_forward<W: Word>(chain: &mut [u8], input: &[u8]) {
+    module_run(if W::BITS == 32 { module::bench_forward256 } else { module::bench_forward512 }, chain, input);
 }
 
-fn module_backward<W: Word>(chain: &mut [u8], message: &[u8]) {
-    module_run(if W::BITS == 32 { module::bench_backward256 } else { module::bench_backward512 }, chain, message);
+fn module_backward<W: Word>(chain: &mut [u8], input: &[u8]) {
+    module_run(if W::BITS == 32 { module::bench_backward256 } else { module::bench_backward512 }, chain, input);
 }
 
-fn module_run(run: module::Run, chain: &mut [u8], message: &[u8]) {
+fn module_run(run: module::Run, chain: &mut [u8], input: &[u8]) {
     // SAFETY: each pointer comes with the length of its slice, and the slices cannot overlap.
-    let answer = unsafe { run(chain.as_mut_ptr(), chain.len(), message.as_ptr(), message.len()) };
+    let answer = unsafe { run(chain.as_mut_ptr(), chain.len(), input.as_ptr(), input.len()) };
     assert_eq!(answer, ACCEPTED);
 }
 
-fn calls_forward<W: Word>(chain: &mut [u8], message: &[u8]) {
-    for block in message.chunks_exact(W::BLOCK_BYTES) {
+fn calls_forward<W: Word>(chain: &mut [u8], input: &[u8]) {
+    for block in input.chunks_exact(W::BLOCK_BYTES) {
         assert_eq!(block_forward(W::BITS as u64, chain, block), ACCEPTED);
     }
 }
 
-fn calls_backward<W: Word>(chain: &mut [u8], message: &[u8]) {
-    for block in message.chunks_exact(W::BLOCK_BYTES).rev() {
+fn calls_backward<W: Word>(chain: &mut [u8], input: &[u8]) {
+    for block in input.chunks_exact(W::BLOCK_BYTES).rev() {
         assert_eq!(block_backward(W::BITS as u64, chain, block), ACCEPTED);
     }
 }
 
 // As in the module's own run of blocks, the chain is kept in words from the first block to the last.
 
-pub fn reference_forward<W: Word>(chain: &mut [u8], message: &[u8]) {
+pub fn reference_forward<W: Word>(chain: &mut [u8], input: &[u8]) {
     let mut words = lsh_ref::load_chain::<W>(chain);
-    for block in message.chunks_exact(W::BLOCK_BYTES) {
+    for block in input.chunks_exact(W::BLOCK_BYTES) {
         words = lsh_ref::forward(&words, block);
     }
     lsh_ref::store_chain(&words, chain);
 }
 
-fn reference_backward<W: Word>(chain: &mut [u8], message: &[u8]) {
+fn reference_backward<W: Word>(chain: &mut [u8], input: &[u8]) {
     let mut words = lsh_ref::load_chain::<W>(chain);
-    for block in message.chunks_exact(W::BLOCK_BYTES).rev() {
+    for block in input.chunks_exact(W::BLOCK_BYTES).rev() {
         words = lsh_ref::backward(&words, block);
     }
     lsh_ref::store_chain(&words, chain);
 }
 
-/// Crypto++ has no block run to call, so a whole message is hashed, with the longest digest of the word size.
-pub type Hash = fn(message: &[u8]) -> Vec<u8>;
+/// Word 0 of the chain of a new record after an Append of the input.
+pub fn module_append<W: Word>(input: &[u8]) -> u64 {
+    // SAFETY: the pointer comes with the length of its slice.
+    unsafe { module::bench_append(W::BITS as u64, digest_bits::<W>(), input.as_ptr(), input.len()) }
+}
+
+/// Writes the digest of a whole message where a receipt has it. A buffer is lent because the module and Crypto++ need
+/// no other, and making one would count at short messages.
+pub type Hash = fn(message: &[u8], receipt: &mut [u8; RECEIPT_BYTES]);
+
+pub struct HashPeer {
+    pub name: &'static str,
+    pub hash: Hash,
+}
+
+pub fn hash_peers<W: Word>() -> Vec<HashPeer> {
+    let mut peers = vec![
+        HashPeer { name: MODULE, hash: module_hash::<W> },
+        HashPeer { name: REFERENCE, hash: reference_hash::<W> },
+    ];
+    peers.extend(cryptopp::<W>().map(|hash| HashPeer { name: CRYPTOPP, hash }));
+    peers
+}
+
+/// The longest digest of the word size.
+pub fn digest_bits<W: Word>() -> u64 {
+    8 * W::BITS as u64
+}
+
+/// The bytes of a receipt that have the longest digest: all w after the first four.
+pub fn digest_part<W: Word>(receipt: &mut [u8; RECEIPT_BYTES]) -> &mut [u8] {
+    &mut receipt[4..4 + W::BITS]
+}
+
+fn module_hash<W: Word>(message: &[u8], receipt: &mut [u8; RECEIPT_BYTES]) {
+    assert_eq!(whole(W::BITS as u64, digest_bits::<W>(), message, 0, 0, receipt), ACCEPTED);
+}
+
+fn reference_hash<W: Word>(message: &[u8], receipt: &mut [u8; RECEIPT_BYTES]) {
+    digest_part::<W>(receipt).copy_from_slice(&lsh_ref::hash_stream::<W>(digest_bits::<W>(), message));
+}
 
 #[cfg(not(feature = "cryptopp"))]
 pub fn cryptopp<W: Word>() -> Option<Hash> {
@@ -94,11 +134,9 @@ pub fn cryptopp<W: Word>() -> Option<Hash> {
         fn cryptopp_lsh256(message: *const u8, length: usize, digest: *mut u8);
         fn cryptopp_lsh512(message: *const u8, length: usize, digest: *mut u8);
     }
-    Some(|message| {
-        let mut digest = vec![0; W::BITS];
+    Some(|message, receipt| {
         let hash = if W::BITS == 32 { cryptopp_lsh256 } else { cryptopp_lsh512 };
         // SAFETY: the message comes with its length, and the digest has the 32 or 64 bytes that are written.
-        unsafe { hash(message.as_ptr(), message.len(), digest.as_mut_ptr()) };
-        digest
+        unsafe { hash(message.as_ptr(), message.len(), digest_part::<W>(receipt).as_mut_ptr()) };
     })
 }

@@ -1,0 +1,80 @@
+//! How long each kind of work takes each peer.
+
+use lsh_ref::Word;
+use std::hint::black_box;
+use std::time::{Duration, Instant};
+
+/// What is timed at one word size: a kind of work by a peer. The tables show both by these names.
+#[derive(Clone, Copy, PartialEq)]
+pub struct Task {
+    pub peer: &'static str,
+    pub work: &'static str,
+}
+
+type Run = Box<dyn FnMut(&[u8])>;
+
+/// A task, and the shortest time that it took over its input.
+pub struct Timing<'a> {
+    w: usize,
+    task: Task,
+    input: &'a [u8],
+    run: Run,
+    best: Duration,
+}
+
+impl<'a> Timing<'a> {
+    pub fn new<W: Word>(task: Task, input: &'a [u8], run: impl FnMut(&[u8]) + 'static) -> Timing<'a> {
+        Timing { w: W::BITS, task, input, run: Box::new(run), best: Duration::MAX }
+    }
+
+    pub fn time(&mut self) {
+        let start = Instant::now();
+        (self.run)(black_box(self.input));
+        self.best = self.best.min(start.elapsed());
+    }
+
+    /// In MB/s, an MB being 10^6 bytes.
+    fn rate(&self) -> f64 {
+        self.input.len() as f64 / 1e6 / self.best.as_secs_f64()
+    }
+}
+
+/// Runs a round with its stack moved. The same code was some percent faster or slower from process to process, which
+/// moving the stack by multiples of 16 bytes evens out: probably by where a stack frame begins within a cache line. So
+/// the rounds go through all these places, and the best time is that of the best place for every task.
+pub fn run_moved(round: usize, run: &mut dyn FnMut()) {
+    let places = [moved_by::<16>, moved_by::<32>, moved_by::<48>, moved_by::<64>];
+    places[round % places.len()](run);
+}
+
+#[inline(never)]
+fn moved_by<const BYTES: usize>(run: &mut dyn FnMut()) {
+    let room = [0u8; BYTES];
+    run();
+    black_box(&room); // so that the room is there during the run
+}
+
+/// The rates reached, in the order of the timings.
+pub struct Rates {
+    rates: Vec<(usize, Task, f64)>,
+}
+
+impl Rates {
+    pub fn of(timings: &[Timing]) -> Rates {
+        Rates { rates: timings.iter().map(|timing| (timing.w, timing.task, timing.rate())).collect() }
+    }
+
+    /// Nothing where the task was not timed.
+    pub fn rate(&self, w: usize, task: Task) -> Option<f64> {
+        self.rates.iter().find(|timed| (timed.0, timed.1) == (w, task)).map(|timed| timed.2)
+    }
+
+    pub fn ratio(&self, w: usize, task: Task, to: Task) -> Option<f64> {
+        Some(self.rate(w, task)? / self.rate(w, to)?)
+    }
+
+    /// The word sizes and the peers that a kind of work was timed with.
+    pub fn peers_of<'r>(&'r self, work: &'r str) -> impl Iterator<Item = (usize, &'static str)> + 'r {
+        self.rates.iter().filter(move |timed| timed.1.work == work).map(|timed| (timed.0, timed.1.peer))
+    }
+}
