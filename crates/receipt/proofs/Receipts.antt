@@ -20,7 +20,7 @@ use Rattle.lsh.proofs.Bytes.{octets}
 use Rattle.lsh.proofs.Opening.{at-zeros}
 use Rattle.message.proofs.Digest.{digest-bytes}
 use Rattle.engine.proofs.Places.{Placed, stored-front}
-use Rattle.receipt.specs.Receipt.{receiptBytes, zeroFilled, receipt}
+use Rattle.receipt.specs.Receipt.{receiptBytes, receipt}
 use Rattle.receipt.proofs.FinalBytes.{length-final, final-bytes}
 
 module _ (w n : ℕ) (t : List ℕ) (size : isWordSize w ≡ true) (le : n ≤ 8 * w) where
@@ -61,7 +61,7 @@ module _ (w n : ℕ) (t : List ℕ) (size : isWordSize w ≡ true) (le : n ≤ 8
   whole = receipt w n (digest (sizeOf w) n t)
 
   length-receipt : length whole ≡ 68
-  unfolding receipt zeroFilled receiptBytes
+  unfolding receipt receiptBytes
   length-receipt =
       let short : length bytes ≤ 64 = omega (arith, length-bytes, block-is w size, block-most w size) in
       let front : List ℕ = w ∷ 0 ∷ n % 256 ∷ n / 256 ∷ bytes in
@@ -83,7 +83,7 @@ at-append-zeros (x ∷ s) k (suc i) = at-append-zeros s k i
 
 -- its place i, where i is j
 pub at-receipt : (w n : ℕ) (d : List Bool) {i : ℕ} (j : ℕ) → i ≡ j → at (w ∷ 0 ∷ n % 256 ∷ n / 256 ∷ bytesOfBits d) j ≡ at (receipt w n d) i
-unfolding receipt zeroFilled
+unfolding receipt
 at-receipt w n d j e =
     let front : List ℕ = w ∷ 0 ∷ n % 256 ∷ n / 256 ∷ bytesOfBits d in
     sym (at-append-zeros front (receiptBytes - length front) j) ∙ ap (at (receipt w n d)) (sym e)

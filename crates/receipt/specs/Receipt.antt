@@ -1,18 +1,14 @@
 -- The receipt of a digest.
 -- Assumes nothing.
 use mathlib.Core.Bool.{Bool}
-use mathlib.Core.List.{List, _∷_, _++_}
-use Prim.Native.Nat.{ℕ, _-_, _/_, _%_}
-use lib.ListN.{length, replicate}
+use mathlib.Core.List.{List, _∷_}
+use Prim.Native.Nat.{ℕ, _/_, _%_}
 use Rattle.lsh.specs.Bits.{bytesOfBits}
+use Rattle.runs.specs.ZeroFilled.{zeroFilled}
 
 -- the bytes of a receipt
 unfoldable pub receiptBytes : ℕ
 receiptBytes = 68
-
--- a byte string, and zeros until there are n bytes
-unfoldable pub zeroFilled : ℕ → List ℕ → List ℕ
-zeroFilled n s = s ++ replicate (n - length s) 0
 
 -- w, zero, n with the low byte first, the digest d of n bits, and zeros
 unfoldable pub receipt : ℕ → ℕ → List Bool → List ℕ

@@ -1,8 +1,8 @@
 -- The record of an order: when it is sound, the bytes it holds, and the record of a byte string.
 -- Assumes nothing.
 use mathlib.Core.Bool.{Bool, true, _&&_}
-use mathlib.Core.List.{List, [], _∷_, _++_}
-use Prim.Native.Nat.{ℕ, _-_, _%_, _^_}
+use mathlib.Core.List.{List, [], _∷_}
+use Prim.Native.Nat.{ℕ, _%_, _^_}
 use lib.Dec.{eqb, ltb, leb}
 use lib.ListN.{length, take, drop, replicate}
 use Rattle.lsh.specs.WordSize.{isWordSize, sizeOf, blockBytes}
@@ -10,11 +10,12 @@ use Rattle.lsh.specs.Block.{forwards}
 use Rattle.lsh.specs.Opening.{opening}
 use Rattle.lsh.specs.Padding.{blocksOf, restOf}
 use Rattle.runs.specs.Limits.{isDigestLength, limit}
+use Rattle.runs.specs.ZeroFilled.{zeroFilled}
 use Rattle.record.specs.declared.Record.{Record}
 
 -- the bytes s, and zeros after them, 256 in all
 unfoldable pub heldOf : List ℕ → List ℕ
-heldOf s = s ++ replicate (256 - length s) 0
+heldOf s = zeroFilled 256 s
 
 -- each number of s is below m
 abbrev pub allBelow : ℕ → List ℕ → Bool
