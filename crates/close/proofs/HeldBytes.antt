@@ -14,7 +14,8 @@ use Rattle.lsh.proofs.Figures.{block-is}
 use Rattle.lsh.proofs.Bytes.{Bytes}
 use Rattle.record.specs.declared.Record.{Record}
 use Rattle.record.specs.Record.{sound, heldBytes}
-use Rattle.record.proofs.Sound.{sounds, chain-is, bytes-some, bytes-most}
+use Rattle.runs.proofs.Sizes.{bytes-some, bytes-most}
+use Rattle.record.proofs.Sound.{sounds, chain-is}
 use Rattle.record.proofs.Held.{fill-lt, held-length}
 
 -- the first bytes of a byte string

@@ -20,7 +20,8 @@ use Rattle.record.specs.declared.Outcome.{Outcome}
 use Rattle.record.specs.Record.{heldOf, sound, heldBytes}
 use Rattle.record.specs.Calls.{appended, appendAccepted}
 use Rattle.record.proofs.Lists.{zero-all}
-use Rattle.record.proofs.Sound.{sounds, bytes-most}
+use Rattle.runs.proofs.Sizes.{bytes-most}
+use Rattle.record.proofs.Sound.{sounds}
 use Rattle.record.proofs.Held.{fill-lt, held-length, total-is}
 
 -- the answer to an accepted call

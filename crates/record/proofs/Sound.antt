@@ -3,7 +3,7 @@
 use mathlib.Core.Path.{_≡_, sym, subst}
 use mathlib.Core.Bool.{Bool, true, _&&_}
 use mathlib.Core.List.{List}
-use Prim.Native.Nat.{ℕ, _*_, _%_, _^_, _≤_, _<_}
+use Prim.Native.Nat.{ℕ, _%_, _^_, _≤_, _<_}
 use native.Mathlib.Omega.{arith}
 use borrow.Author.Tests.{leb-true}
 use lib.Dec.{leb}
@@ -11,7 +11,7 @@ use lib.ListN.{length, drop}
 use Rattle.lsh.specs.Tabulate.{at}
 use Rattle.lsh.specs.WordSize.{isWordSize, sizeOf, blockBytes}
 use Rattle.lsh.specs.Block.{Chain}
-use Rattle.lsh.proofs.Figures.{by-size, bits-are, block-is, block-some, block-most}
+use Rattle.lsh.proofs.Figures.{by-size, bits-are}
 use Rattle.runs.specs.Limits.{isDigestLength, limit}
 use Rattle.record.specs.declared.Record.{Record}
 use Rattle.record.specs.Record.{allBelow, allZero, sound}
@@ -43,13 +43,6 @@ sounds r e =
       below = p3 .1;
       zero = p4 .1;
     }
-
--- the bytes of a block as the code counts them: some, and at most 256
-pub bytes-some : (w : ℕ) → isWordSize w ≡ true → 0 < 4 * w
-bytes-some w e = omega (arith, block-is w e, block-some w e)
-
-pub bytes-most : (w : ℕ) → isWordSize w ≡ true → 4 * w ≤ 256
-bytes-most w e = omega (arith, block-is w e, block-most w e)
 
 some-words : (w : ℕ) → isWordSize w ≡ true → 0 < 2 ^ w
 some-words = by-size (λ (w : ℕ). 0 < 2 ^ w) (omega arith) (omega arith)

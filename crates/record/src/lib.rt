@@ -210,14 +210,14 @@ fn append_short(r: Record, piece: &[u8]) -> Outcome
     let chain = r.chain;
     let held = r.held;
     let at = (total % (4 * w)) as usize;
-    let h = put(held, at, piece);
+    let joined = put(held, at, piece);
     let sum = total + piece.len() as u64;
     let next = Record {
         w: w,
         n: n,
         total: sum,
         chain: chain,
-        held: h,
+        held: joined,
     };
     Outcome {
         number: 0,

@@ -2,3 +2,4 @@ pub mod Sizes
 pub mod Zeros
 pub mod Limits
 pub mod Published
+pub mod Rest

@@ -3,13 +3,14 @@
 use mathlib.Core.Path.{_≡_, sym, ap, _∙_, subst}
 use mathlib.Core.Bool.{true}
 use mathlib.Core.List.{List}
-use Prim.Native.Nat.{ℕ, _*_, _/_, _<_}
+use Prim.Native.Nat.{ℕ, _*_, _/_, _≤_, _<_}
 use native.Mathlib.Nat.{div-eq-of-lt}
+use native.Mathlib.Omega.{arith}
 use lib.ListN.{length}
 use Rattle.lsh.specs.WordSize.{WordSize, isWordSize, sizeOf, blockBytes}
 use Rattle.lsh.specs.Block.{forwards}
 use Rattle.lsh.specs.Padding.{blocksOf}
-use Rattle.lsh.proofs.Figures.{block-is, block-some}
+use Rattle.lsh.proofs.Figures.{block-is, block-some, block-most}
 use Rattle.lsh.proofs.Padding.{blocks-short}
 
 -- what the engine of a word size gives is what w asks for
@@ -27,3 +28,10 @@ unfolding forwards
 run-none w s t size short =
     let less : length s < blockBytes (sizeOf w) = rw (block-is w size) short in
     (rw (blocks-short (sizeOf w) (block-some w size) s less), sym (div-eq-of-lt less))
+
+-- the bytes of a block as the code counts them: some, and at most 256
+pub bytes-some : (w : ℕ) → isWordSize w ≡ true → 0 < 4 * w
+bytes-some w e = omega (arith, block-is w e, block-some w e)
+
+pub bytes-most : (w : ℕ) → isWordSize w ≡ true → 4 * w ≤ 256
+bytes-most w e = omega (arith, block-is w e, block-most w e)

@@ -3,19 +3,17 @@
 use mathlib.Core.Path.{_≡_, sym, ap, _∙_, subst}
 use mathlib.Core.Bool.{true}
 use mathlib.Core.List.{List, _∷_, _++_}
-use Prim.Native.Nat.{ℕ, _-_, _*_, _/_, _%_, _≤_, _<_}
-use native.Mathlib.Nat.{mod-lt, div-add-mod'}
-use native.Mathlib.Omega.{arith}
-use lib.ListN.{length, take, drop, replicate, length-drop}
-use lib.Seq.{take-all}
+use Prim.Native.Nat.{ℕ, _-_, _/_, _%_}
+use lib.ListN.{length, replicate}
 use Rattle.lsh.specs.WordSize.{WordSize, isWordSize, sizeOf, blockBytes}
 use Rattle.lsh.specs.Block.{Chain, forwards}
 use Rattle.lsh.specs.Opening.{opening}
 use Rattle.lsh.specs.Padding.{blocksOf, restOf}
-use Rattle.lsh.proofs.Figures.{amounts, block-is, block-some}
+use Rattle.lsh.proofs.Figures.{amounts, block-some}
 use Rattle.lsh.proofs.Block.{forward-chain}
 use Rattle.lsh.proofs.Blocks.{forwards-chain, forwards-append}
-use Rattle.lsh.proofs.Padding.{length-rest, blocks-append}
+use Rattle.lsh.proofs.Padding.{blocks-append}
+use Rattle.runs.proofs.Rest.{rest, rest-is, rest-length}
 
 module _ (w n : ℕ) where
   opening-is : Chain (sizeOf w) (opening (sizeOf w) n)
@@ -28,36 +26,21 @@ module _ (w n : ℕ) where
   pub run-chain : (bs : List (List ℕ)) {t c : List ℕ} → Chain (sizeOf w) t → c ≡ forwards (sizeOf w) bs t → Chain (sizeOf w) c
   run-chain bs {t} h e = subst (Chain (sizeOf w)) (sym e) (forwards-chain (sizeOf w) (amounts w) bs t h)
 
+  -- the run over what is left after the whole blocks of m, with the padding
   module _ (m : List ℕ) (size : isWordSize w ≡ true) {k : ℕ} (count : k ≡ length m / blockBytes (sizeOf w)) where
     abbrev z : WordSize
     z = sizeOf w
 
-    place : k * (4 * w) ≡ length m / blockBytes z * blockBytes z
-    place = rw (count, block-is w size)
-
-    pub inside : k * (4 * w) ≤ length m
-    inside = omega (arith, place, div-add-mod' (length m) (blockBytes z))
-
-    abbrev rest : List ℕ
-    rest = take (length m - k * (4 * w)) (drop (k * (4 * w)) m)
-
-    rest-is : rest ≡ restOf z m
-    unfolding restOf
-    rest-is = take-all (length m - k * (4 * w)) (drop (k * (4 * w)) m) (omega (arith, length-drop (k * (4 * w)) m)) ∙ ap (λ (i : ℕ). drop i m) place
-
-    rest-length : length rest ≡ length m % blockBytes z
-    rest-length = ap length rest-is ∙ length-rest z (block-some w size) m
-
-    pub rest-short : length rest < blockBytes z
-    rest-short = rw rest-length (mod-lt (length m) (block-some w size))
+    abbrev left : List ℕ
+    left = rest w m size count
 
     pub last-run : (p : ℕ) {t c : List ℕ} → t ≡ opening z n → c ≡ forwards z (blocksOf z m) t
-        → forwards z (blocksOf z (rest ++ p ∷ replicate (blockBytes z - 1 - length rest) 0)) c
+        → forwards z (blocksOf z (left ++ p ∷ replicate (blockBytes z - 1 - length left) 0)) c
         ≡ forwards z (blocksOf z (m ++ p ∷ replicate (blockBytes z - 1 - length m % blockBytes z) 0)) (opening z n)
     last-run p {t} {c} first run =
         let tail : List ℕ = p ∷ replicate (blockBytes z - 1 - length m % blockBytes z) 0 in
-        ap (λ (l : ℕ). forwards z (blocksOf z (rest ++ p ∷ replicate (blockBytes z - 1 - l) 0)) c) rest-length
-        ∙ ap (λ (s : List ℕ). forwards z (blocksOf z (s ++ tail)) c) rest-is
+        ap (λ (l : ℕ). forwards z (blocksOf z (left ++ p ∷ replicate (blockBytes z - 1 - l) 0)) c) (rest-length w m size count)
+        ∙ ap (λ (s : List ℕ). forwards z (blocksOf z (s ++ tail)) c) (rest-is w m size count)
         ∙ ap (forwards z (blocksOf z (restOf z m ++ tail))) (run ∙ ap (forwards z (blocksOf z m)) first)
         ∙ sym (forwards-append z (blocksOf z m) (blocksOf z (restOf z m ++ tail)) (opening z n))
         ∙ sym (ap (λ (bs : List (List ℕ)). forwards z bs (opening z n)) (blocks-append z (block-some w size) m tail))

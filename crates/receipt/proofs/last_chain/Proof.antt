@@ -8,7 +8,7 @@ use borrow.Author.Needs.{needs}
 use Rattle.lsh.specs.WordSize.{sizeOf}
 use Rattle.lsh.specs.Block.{forwards}
 use Rattle.lsh.specs.Padding.{blocksOf}
-use Rattle.lsh.proofs.Figures.{block-is, block-most}
+use Rattle.runs.proofs.Sizes.{bytes-most}
 use Rattle.receipt.proofs.LastBlock.{short, long, last-block}
 use Rattle.receipt.proofs.last_chain.Statement.{statement}
 use Rattle.receipt.proofs.last_chain.Tie as tie
@@ -17,7 +17,7 @@ pub last-chain-spec : {M : Type 1} → statement M
 last-chain-spec =
     tie.close
     (tie.spec
-    (λ c. record { fits = omega (arith, block-is _ (c .before .pre .0), block-most _ (c .before .pre .0)) })
+    (λ c. record { fits = omega (arith, bytes-most _ (c .before .pre .0)) })
     (λ c κs. short _ (c .before .args .rest .now) (c .before .pre .0) (c .before .pre .2))
     (λ c. long _ (c .before .before .args .rest .now) (c .before .before .pre .0) (c .before .before .pre .2) _ (c .last-block .ensures))
     (λ c. sym (length-take-le _ _ (long _ (c .before .before .before .args .rest .now) (c .before .before .before .pre .0) (c .before .before .before .pre .2) _ (c .before .last-block .ensures))))

@@ -10,7 +10,8 @@ use borrow.Author.Tests.{lt-ltb, le-ltb, not-true, not-false}
 use Rattle.runs.specs.Limits.{limit}
 use Rattle.record.specs.Record.{sound}
 use Rattle.record.specs.Calls.{refused, appendAccepted, appendCall}
-use Rattle.record.proofs.Sound.{Sound, sounds, bytes-some, bytes-most}
+use Rattle.runs.proofs.Sizes.{bytes-some, bytes-most}
+use Rattle.record.proofs.Sound.{Sound, sounds}
 use Rattle.record.proofs.append.Statement.{statement}
 use Rattle.record.proofs.append.Tie as tie
 

@@ -13,7 +13,8 @@ use Rattle.lsh.proofs.Figures.{amounts}
 use Rattle.lsh.proofs.Blocks.{forwards-chain}
 use Rattle.runs.specs.Limits.{limit}
 use Rattle.record.specs.declared.Record.{Record}
-use Rattle.record.proofs.Sound.{Sound, sounds, chain-is, bytes-some, bytes-most}
+use Rattle.runs.proofs.Sizes.{bytes-some, bytes-most}
+use Rattle.record.proofs.Sound.{Sound, sounds, chain-is}
 use Rattle.record.proofs.Appending.{place, room, place-lt, filling-length, first-block, filled}
 use Rattle.record.proofs.append_long.Statement.{statement}
 use Rattle.record.proofs.append_long.Tie as tie

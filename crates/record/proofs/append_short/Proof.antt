@@ -4,7 +4,8 @@ use native.Mathlib.Omega.{arith}
 use lib.ListN.{length}
 use borrow.Author.Needs.{needs}
 use Rattle.runs.specs.Limits.{limit}
-use Rattle.record.proofs.Sound.{sounds, bytes-some, bytes-most}
+use Rattle.runs.proofs.Sizes.{bytes-some, bytes-most}
+use Rattle.record.proofs.Sound.{sounds}
 use Rattle.record.proofs.Appending.{short}
 use Rattle.record.proofs.append_short.Statement.{statement}
 use Rattle.record.proofs.append_short.Tie as tie

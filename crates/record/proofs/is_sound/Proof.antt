@@ -12,7 +12,7 @@ use Rattle.lsh.proofs.Figures.{block-is}
 use Rattle.runs.specs.Limits.{isDigestLength, limit}
 use Rattle.record.specs.declared.Record.{Record}
 use Rattle.record.specs.Record.{allBelow, allZero, sound}
-use Rattle.record.proofs.Sound.{bytes-some, bytes-most}
+use Rattle.runs.proofs.Sizes.{bytes-some, bytes-most}
 use Rattle.record.proofs.is_sound.Statement.{statement}
 use Rattle.record.proofs.is_sound.Tie as tie
 

@@ -5,8 +5,8 @@ use native.Mathlib.Omega.{arith}
 use borrow.Author.Needs.{needs}
 use Rattle.lsh.specs.Tabulate.{at}
 use Rattle.lsh.specs.WordSize.{WordSize, lsh256}
-use Rattle.lsh.proofs.Figures.{size-32, size-64, block-is, block-most}
-use Rattle.runs.proofs.Sizes.{run-by, run-none}
+use Rattle.lsh.proofs.Figures.{size-32, size-64}
+use Rattle.runs.proofs.Sizes.{run-by, run-none, bytes-most}
 use Rattle.runs.proofs.forward.Statement.{statement}
 use Rattle.runs.proofs.forward.Tie as tie
 
@@ -15,7 +15,7 @@ unfolding lsh256
 forward-spec =
     tie.close
     (tie.spec
-    (λ c. record { fits = omega (arith, block-is _ (c .before .pre .0), block-most _ (c .before .pre .0)) })
+    (λ c. record { fits = omega (arith, bytes-most _ (c .before .pre .0)) })
     (λ c. run-none _ (c .before .before .args .s .now) _ (c .before .before .pre .0) (c .if1 .taken))
     (λ c κs l. subst (λ (z : WordSize). at (c .before .before .before .args .t) l < 2 ^ z .bits) (size-32 (c .if2 .taken)) (c .before .before .before .pre .1 .below l))
     (λ c κs. search needs)
