@@ -77,7 +77,8 @@ pub fn write_receipt(w: u64, n: u64, t: [u64; 16], output: &mut [u8])
     requires { ⌜ (isWordSize w ≡ true) × (n ≤ 8 * w) × Chain (sizeOf w) t × (receiptBytes ≤ length (now output)) ⌝ }
     ensures { λ _. ⌜ now (output .exit) ≡ receipt w n (digest (sizeOf w) n t) ++ drop receiptBytes (now (output .entry)) ⌝ }
 {
-    for i in 0..RECEIPT {
+    let end = RECEIPT;
+    for i in 0..end {
         output[i] = receipt_byte(w, n, t, i);
     }
 }
