@@ -9,7 +9,7 @@ ghost use Rattle.lsh.specs.Block.{Chain, forwards};
 ghost use Rattle.lsh.specs.Padding.{blocksOf, restOf};
 ghost use Rattle.runs.specs.Limits.{limit};
 ghost use Rattle.record.specs.Record.{heldOf, allBelow, allZero, sound, zeros};
-ghost use Rattle.record.specs.Calls.{openCall, appendAccepted, appendCall};
+ghost use Rattle.record.specs.Calls.{refused, openCall, appendAccepted, appendCall};
 
 // What is kept of an order between calls: the word size, the digest length in bits, how many bytes there were, the chain after
 // their whole blocks, and the bytes held since.
@@ -40,18 +40,10 @@ pub fn open(w: u64, n: u64) -> Outcome
     ensures { λ o. ⌜ o ≡ openCall w n ⌝ }
 {
     if !runs::is_word_size(w) {
-        return Outcome {
-            number: 1,
-            count: 0,
-            next: no_record(),
-        };
+        return refused(1, no_record());
     }
     if !runs::is_digest_length(w, n) {
-        return Outcome {
-            number: 2,
-            count: 0,
-            next: no_record(),
-        };
+        return refused(2, no_record());
     }
     let c = runs::opening(w, n);
     let h = runs::zero_bytes();
@@ -66,6 +58,17 @@ pub fn open(w: u64, n: u64) -> Outcome
         number: 0,
         count: 0,
         next: next,
+    }
+}
+
+// The answer to a refused call.
+pub fn refused(number: u32, r: Record) -> Outcome
+    ensures { λ o. ⌜ o ≡ refused number r ⌝ }
+{
+    Outcome {
+        number: number,
+        count: 0,
+        next: r,
     }
 }
 
@@ -145,21 +148,13 @@ pub fn append(r: Record, piece: &[u8]) -> Outcome
     ensures { λ o. ⌜ o ≡ appendCall r (now (piece .entry)) ⌝ }
 {
     if !is_sound(r) {
-        return Outcome {
-            number: 3,
-            count: 0,
-            next: r,
-        };
+        return refused(3, r);
     }
     let total = r.total;
     let w = r.w;
     let len = piece.len() as u64;
     if runs::LIMIT as u64 - total < len {
-        return Outcome {
-            number: 5,
-            count: 0,
-            next: r,
-        };
+        return refused(5, r);
     }
     let at = total % (4 * w);
     if at == 0 {
@@ -281,7 +276,7 @@ fn take_whole(w: u64, chain: [u64; 16], piece: &[u8]) -> Taken
 }
 
 // The held bytes that begin with the part, the others 0.
-fn hold(part: &[u8]) -> [u8; 256]
+pub fn hold(part: &[u8]) -> [u8; 256]
     requires { ⌜ length (now part) ≤ 256 ⌝ }
     ensures { λ r. ⌜ r ≡ heldOf (now (part .entry)) ⌝ }
 {

@@ -6,7 +6,7 @@ ghost use Prim.Native.Nat.{ℕ, _*_, _/_, _^_, _<_, _≤_};
 ghost use lib.ListN.{length, replicate};
 ghost use Rattle.lsh.specs.Tabulate.{at};
 ghost use Rattle.lsh.specs.WordSize.{isWordSize, sizeOf, blockBytes};
-ghost use Rattle.lsh.specs.Block.{Chain, forwards};
+ghost use Rattle.lsh.specs.Block.{Chain, forwards, backwards};
 ghost use Rattle.lsh.specs.Opening.{opening};
 ghost use Rattle.lsh.specs.Padding.{blocksOf};
 ghost use Rattle.runs.specs.Limits.{isDigestLength};
@@ -161,6 +161,30 @@ pub fn forward(w: u64, t: [u64; 16], s: &[u8]) -> Run
         };
     }
     let run = lsh512::forward(t, s);
+    let chain = run.chain;
+    Run {
+        chain: chain,
+        count: run.count,
+    }
+}
+
+// Runs the whole blocks of s backward, from the last, on the chain t.
+pub fn backward(w: u64, t: [u64; 16], s: &[u8]) -> Run
+    requires { ⌜ (isWordSize w ≡ true) × Chain (sizeOf w) t ⌝ }
+    ensures { λ r. ⌜ (r .chain ≡ backwards (sizeOf w) (blocksOf (sizeOf w) (now (s .entry))) t) × (r .count ≡ length (now (s .entry)) / blockBytes (sizeOf w)) ⌝ }
+{
+    if s.len() < (4 * w) as usize {
+        return Run { chain: t, count: 0 };
+    }
+    if w == 32 {
+        let small = lsh256::backward(narrow(t), s);
+        let words = small.chain;
+        return Run {
+            chain: widen(words),
+            count: small.count,
+        };
+    }
+    let run = lsh512::backward(t, s);
     let chain = run.chain;
     Run {
         chain: chain,

@@ -9,7 +9,7 @@ use borrow.Author.Needs.{needs}
 use borrow.Author.Tests.{lt-ltb, le-ltb, not-true, not-false}
 use Rattle.runs.specs.Limits.{limit}
 use Rattle.record.specs.Record.{sound}
-use Rattle.record.specs.Calls.{refused, appendAccepted, appendCall}
+use Rattle.record.specs.Calls.{appendAccepted, appendCall}
 use Rattle.runs.proofs.Sizes.{bytes-some, bytes-most}
 use Rattle.record.proofs.Sound.{Sound, sounds}
 use Rattle.record.proofs.append.Statement.{statement}
@@ -40,19 +40,19 @@ unfolding appendCall
 accepted c = rw (sound-is (c .before), le-ltb _ _ (within c))
 
 returns : tie.Need-returns
-unfolding appendCall refused
-returns c = rw (sym (c .before .is-sound .ensures) ∙ not-true _ (c .if1 .taken))
+unfolding appendCall
+returns c = c .refused .ensures ∙ rw (sym (c .before .before .is-sound .ensures) ∙ not-true _ (c .before .if1 .taken))
 
 sub-if2 : tie.Need-sub-if2
 unfolding limit
 sub-if2 c = is-sound c .few
 
 returns-2 : tie.Need-returns-2
-unfolding appendCall refused limit
+unfolding appendCall limit
 returns-2 c =
-    let a = c .before .before .before .before .args in
-    let over : limit < a .r .total + length (a .piece .now) = omega (arith, is-sound (c .before) .few, c .if2 .taken) in
-    rw (sound-is (c .before), lt-ltb _ _ over)
+    let a = c .before .before .before .before .before .args in
+    let over : limit < a .r .total + length (a .piece .now) = omega (arith, is-sound (c .before .before) .few, c .before .if2 .taken) in
+    c .refused2 .ensures ∙ rw (sound-is (c .before .before), lt-ltb _ _ over)
 
 add-if4 : tie.Need-add-if4
 unfolding limit
@@ -65,8 +65,10 @@ append-spec =
     tie.close
     (tie.spec
     (λ c κs. search needs)
+    (λ c κs. search needs)
     returns
     sub-if2
+    (λ c κs. search needs)
     returns-2
     (λ c. record { fits = omega (arith, most (c .before)) })
     (λ c. some (c .before))

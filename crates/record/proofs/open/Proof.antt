@@ -7,7 +7,7 @@ use Rattle.lsh.specs.WordSize.{isWordSize}
 use Rattle.lsh.specs.Opening.{opening}
 use Rattle.runs.specs.Limits.{isDigestLength}
 use Rattle.record.specs.Record.{heldOf}
-use Rattle.record.specs.Calls.{refused, opened, openCall}
+use Rattle.record.specs.Calls.{opened, openCall}
 use Rattle.runs.proofs.Limits.{digest-most}
 use Rattle.record.proofs.open.Statement.{statement}
 use Rattle.record.proofs.open.Tie as tie
@@ -19,16 +19,19 @@ digest-passed : (c : tie.Else2) → isDigestLength (c .before .before .before .b
 digest-passed c = sym (c .before .is-digest-length .ensures) ∙ not-false _ (c .if2 .left)
 
 returns : tie.Need-returns
-unfolding openCall refused
-returns c = rw (sym (c .before .before .is-word-size .ensures) ∙ not-true _ (c .before .if1 .taken), c .no-record .ensures)
+unfolding openCall
+returns c =
+    c .refused .ensures
+    ∙ rw (sym (c .before .before .before .is-word-size .ensures) ∙ not-true _ (c .before .before .if1 .taken), c .before .no-record .ensures)
 
 returns-2 : tie.Need-returns-2
-unfolding openCall refused
+unfolding openCall
 returns-2 c =
-    rw (
-      word-passed (c .before .before .before),
-      sym (c .before .before .is-digest-length .ensures) ∙ not-true _ (c .before .if2 .taken),
-      c .no-record2 .ensures,
+    c .refused2 .ensures
+    ∙ rw (
+      word-passed (c .before .before .before .before),
+      sym (c .before .before .before .is-digest-length .ensures) ∙ not-true _ (c .before .before .if2 .taken),
+      c .before .no-record2 .ensures,
     )
 
 returns-3 : tie.Need-returns-3
@@ -42,8 +45,10 @@ open-spec =
     (tie.spec
     (λ c κs. search needs)
     (λ c κs. search needs)
+    (λ c κs. search needs)
     returns
     (λ c κs. word-passed c)
+    (λ c κs. search needs)
     (λ c κs. search needs)
     returns-2
     (λ c κs. (word-passed (c .before .before), digest-most _ _ (digest-passed c)))

@@ -1,0 +1,53 @@
+-- The test of two lists says that they are the same list; and what a loop over both lists asks for.
+-- Assumes nothing.
+use mathlib.Core.Path.{_≡_, refl, ap, ap₂, _∙_}
+use mathlib.Core.Bool.{Bool, true, false, _&&_, false≢true}
+use mathlib.Core.List.{List, [], _∷_}
+use Prim.Native.Nat.{ℕ, suc, _+_, _≤_, _<_}
+use native.Mathlib.Numerals.{add-one}
+use lib.Dec.{eqb}
+use lib.ListN.{length, drop, getD, drop-of-length-le}
+use lib.Seq.{drop-cons}
+use borrow.Author.Tests.{eqb-true, eq-eqb, ne-eqb}
+use Rattle.lsh.proofs.Tests.{and-true}
+use Rattle.equal.specs.Equal.{equal}
+
+pub equal-self : (s : List ℕ) → equal s s ≡ true
+equal-self [] = refl
+equal-self (x ∷ xs) = rw (eq-eqb x x refl) (equal-self xs)
+
+pub equal-true : (s t : List ℕ) → equal s t ≡ true → s ≡ t
+equal-true [] [] e = refl
+equal-true [] (y ∷ ys) e = absurd (false≢true e)
+equal-true (x ∷ xs) [] e = absurd (false≢true e)
+equal-true (x ∷ xs) (y ∷ ys) e =
+    let p : (eqb x y ≡ true) × (equal xs ys ≡ true) = and-true (eqb x y) (equal xs ys) e in
+    ap₂ (λ (z : ℕ) (zs : List ℕ). z ∷ zs) (eqb-true x y (p .0)) (equal-true xs ys (p .1))
+
+pub equal-length : (s t : List ℕ) → (length s ≡ length t → ⊥) → equal s t ≡ false
+equal-length [] [] differ = absurd (differ refl)
+equal-length [] (y ∷ ys) differ = refl
+equal-length (x ∷ xs) [] differ = refl
+equal-length (x ∷ xs) (y ∷ ys) differ = rw (equal-length xs ys (λ e. differ (ap suc e))) (and-no (eqb x y))
+  where
+    and-no : (b : Bool) → (b && false) ≡ false
+    and-no true = refl
+    and-no false = refl
+
+-- what a loop over both lists has tested before place i: the answer is that of the places from i on
+abbrev pub Tested : List ℕ → List ℕ → ℕ → Type 0
+Tested s t i = equal s t ≡ equal (drop i s) (drop i t)
+
+module _ (s t : List ℕ) (i : ℕ) (before : Tested s t i) where
+  -- the test of the places from i on, by that of place i
+  at-place : i < length s → i < length t → equal s t ≡ (eqb (getD s i 0) (getD t i 0) && equal (drop (i + 1) s) (drop (i + 1) t))
+  at-place h k = before ∙ rw (add-one, drop-cons s i 0 h, drop-cons t i 0 k)
+
+  pub place-differs : i < length s → i < length t → (getD s i 0 ≡ getD t i 0 → ⊥) → false ≡ equal s t
+  place-differs h k differ = rw (at-place h k, ne-eqb (getD s i 0) (getD t i 0) differ)
+
+  pub place-agrees : i < length s → i < length t → getD s i 0 ≡ getD t i 0 → Tested s t (i + 1)
+  place-agrees h k same = rw (at-place h k, eq-eqb (getD s i 0) (getD t i 0) same)
+
+  pub all-agree : length s ≤ i → length t ≤ i → true ≡ equal s t
+  all-agree h k = rw (before, drop-of-length-le s {i = i} h, drop-of-length-le t {i = i} k)

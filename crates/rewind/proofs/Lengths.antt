@@ -1,0 +1,43 @@
+-- What the tests of the lengths of a Rewind say, where blocks have b bytes.
+-- Assumes nothing.
+use mathlib.Core.Path.{_≡_, refl, ap, _∙_}
+use mathlib.Core.Bool.{Bool, true, false, not, _||_}
+use Prim.Native.Nat.{ℕ, _+_, _-_, _*_, _/_, _%_, _≤_, _<_}
+use native.Mathlib.Nat.{div-add-mod', mul-add-mod-self-right}
+use native.Mathlib.Omega.{arith}
+use lib.Dec.{eqb, ltb, leb}
+use borrow.Author.Tests.{eqb-true, ltb-false, leb-false, not-false}
+use Rattle.rewind.specs.Rewind.{startsOffBlock, keepsTooMuch}
+
+or-false : (p q : Bool) → p || q ≡ false → (p ≡ false) × (q ≡ false)
+or-false true q e = (e, cc)
+or-false false q e = (refl, e)
+
+-- size bytes that begin with a block
+pub record OnBlock (b total size : ℕ) : Type 0 where
+  pub fits : size ≤ total
+  pub whole : (total - size) % b ≡ 0
+
+pub on-block : (b total size : ℕ) → startsOffBlock b total size ≡ false → OnBlock b total size
+unfolding startsOffBlock
+on-block b total size e =
+    let p : (ltb total size ≡ false) × (not (eqb ((total - size) % b) 0) ≡ false) = or-false (ltb total size) (not (eqb ((total - size) % b) 0)) e in
+    record { fits = ltb-false total size (p .0); whole = eqb-true ((total - size) % b) 0 (not-false (eqb ((total - size) % b) 0) (p .1)) }
+
+pub keeps-few : (b keep size : ℕ) → keepsTooMuch b keep size ≡ false → (keep ≤ size) × (keep < b)
+unfolding keepsTooMuch
+keeps-few b keep size e =
+    let p : (ltb size keep ≡ false) × (leb b keep ≡ false) = or-false (ltb size keep) (leb b keep) e in
+    (ltb-false size keep (p .0), leb-false b keep (p .1))
+
+module _ (b total size : ℕ) (on : OnBlock b total size) where
+  -- the total: the blocks before, and the bytes handed back
+  pub total-is : total ≡ (total - size) / b * b + size
+  total-is = omega (arith, div-add-mod' (total - size) b, on .whole, on .fits)
+
+  -- as many bytes of each are past the last whole block
+  pub same-fill : total % b ≡ size % b
+  same-fill = ap (λ (k : ℕ). k % b) total-is ∙ mul-add-mod-self-right ((total - size) / b) b size
+
+  pub fill-le : total % b ≤ size
+  fill-le = omega (arith, same-fill, div-add-mod' size b)

@@ -1,0 +1,3 @@
+-- Laws of Rewind.
+pub mod Lengths
+pub mod Reached

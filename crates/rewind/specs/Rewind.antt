@@ -1,0 +1,51 @@
+-- Rewind: the last bytes h of an order, from the beginning of a block on, are handed back, and the first keep of them remain.
+-- Assumes nothing.
+use mathlib.Core.Bool.{Bool, not, cond, _&&_, _||_}
+use mathlib.Core.List.{List}
+use Prim.Native.Nat.{ℕ, _+_, _-_, _/_, _%_}
+use lib.Dec.{eqb, ltb, leb}
+use lib.ListN.{length, take, drop}
+use Rattle.lsh.specs.WordSize.{sizeOf, blockBytes}
+use Rattle.lsh.specs.Block.{backwards}
+use Rattle.lsh.specs.Opening.{opening}
+use Rattle.lsh.specs.Padding.{blocksOf}
+use Rattle.equal.specs.Equal.{equal}
+use Rattle.record.specs.declared.Record.{Record}
+use Rattle.record.specs.declared.Outcome.{Outcome}
+use Rattle.record.specs.Record.{heldOf, heldBytes, sound}
+use Rattle.record.specs.Calls.{refused}
+
+-- 6, with blocks of b bytes: the size bytes handed back are more than the total, or do not begin with a block
+unfoldable pub startsOffBlock : ℕ → ℕ → ℕ → Bool
+startsOffBlock b total size = ltb total size || not (eqb ((total - size) % b) 0)
+
+-- 7: what remains of them is more than was handed back, or a block or more
+unfoldable pub keepsTooMuch : ℕ → ℕ → ℕ → Bool
+keepsTooMuch b keep size = ltb size keep || leb b keep
+
+-- 8: as many of the last bytes of h as are held are not those held
+unfoldable pub heldDiffers : Record → List ℕ → Bool
+heldDiffers r h = not (equal (drop (length h - r .total % blockBytes (sizeOf (r .w))) h) (heldBytes r))
+
+-- the chain that the blocks of h, run backward from the last, reach
+unfoldable pub reached : Record → List ℕ → List ℕ
+reached r h = backwards (sizeOf (r .w)) (blocksOf (sizeOf (r .w)) h) (r .chain)
+
+-- 9: the whole order was handed back, and the chain reached is not the opening chain
+unfoldable pub openingDiffers : Record → List ℕ → Bool
+openingDiffers r h = eqb (r .total - length h) 0 && not (equal (reached r h) (opening (sizeOf (r .w)) (r .n)))
+
+-- the record of what remains
+unfoldable pub rewound : Record → ℕ → List ℕ → Record
+rewound r keep h =
+    record { w = r .w; n = r .n; total = r .total - length h + keep; chain = reached r h; held = heldOf (take keep h) }
+
+-- Rewind: 3 if the record is not sound, then 6, 7, 8 and 9, else 0 with the number of blocks run backward
+unfoldable pub rewindCall : Record → ℕ → List ℕ → Outcome
+rewindCall r keep h =
+    cond (not (sound r)) (refused 3 r)
+    (cond (startsOffBlock (blockBytes (sizeOf (r .w))) (r .total) (length h)) (refused 6 r)
+    (cond (keepsTooMuch (blockBytes (sizeOf (r .w))) keep (length h)) (refused 7 r)
+    (cond (heldDiffers r h) (refused 8 r)
+    (cond (openingDiffers r h) (refused 9 r)
+    (record { number = 0; count = length h / blockBytes (sizeOf (r .w)); next = rewound r keep h })))))
