@@ -1,6 +1,6 @@
 //! The ratios that are wanted of the module. They are printed and decide nothing.
 
-use crate::blocks::{APPEND, BACKWARD, FORWARD};
+use crate::blocks::{APPEND, BACKWARD, FORWARD, REWIND};
 use crate::messages::{WHOLE_1_MIB, WHOLE_64_BYTES};
 use crate::peers::{CRYPTOPP, MODULE, REFERENCE};
 use crate::timing::{Rates, Task};
@@ -13,7 +13,7 @@ struct Bar {
     at_least: [(usize, f64); 2],
 }
 
-const BARS: [Bar; 5] = [
+const BARS: [Bar; 6] = [
     Bar {
         what: "forward, as a multiple of lsh_ref",
         work: FORWARD,
@@ -31,6 +31,12 @@ const BARS: [Bar; 5] = [
         work: APPEND,
         to: Task { peer: MODULE, work: FORWARD },
         at_least: [(32, 0.95), (64, 0.95)],
+    },
+    Bar {
+        what: "Rewind, as a part of Append",
+        work: REWIND,
+        to: Task { peer: MODULE, work: APPEND },
+        at_least: [(32, 0.9), (64, 0.9)],
     },
     Bar {
         what: "a whole message of 1 MiB, as a multiple of Crypto++",

@@ -1,7 +1,7 @@
-//! Whole blocks: the bare runs over them, and Append, which adds the keeping of a record to the forward run.
+//! Whole blocks: the bare runs over them, and Append and Rewind, which add the keeping of a record to a run.
 
 use crate::messages::hash_timing;
-use crate::peers::{block_peers, cryptopp, digest_bits, module_append, reference_forward, BlockPeer, Run};
+use crate::peers::{block_peers, cryptopp, digest_bits, module_append, module_rewind, reference_backward, reference_forward, BlockPeer, Run};
 use crate::peers::{CRYPTOPP, MODULE, REFERENCE};
 use crate::table::Column::{self, OfPeer, OfWork, Rate};
 use crate::timing::{Task, Timing};
@@ -11,6 +11,7 @@ use std::hint::black_box;
 pub const FORWARD: &str = "forward";
 pub const BACKWARD: &str = "backward";
 pub const APPEND: &str = "Append";
+pub const REWIND: &str = "Rewind";
 
 pub const COLUMNS: [Column; 6] = [
     Rate(FORWARD),
@@ -21,10 +22,11 @@ pub const COLUMNS: [Column; 6] = [
     OfWork(BACKWARD, FORWARD),
 ];
 
-pub const APPEND_COLUMNS: [Column; 3] = [Rate(APPEND), Rate(FORWARD), OfWork(APPEND, FORWARD)];
+pub const RECORD_COLUMNS: [Column; 5] =
+    [Rate(APPEND), Rate(FORWARD), OfWork(APPEND, FORWARD), Rate(REWIND), OfWork(REWIND, APPEND)];
 
-/// Every peer reaches the chain of lsh_ref forward and comes back from it, and word 0 after Append is that of the chain
-/// reached.
+/// Every peer reaches the chain of lsh_ref forward and comes back from it, and word 0 after Append and after Rewind is
+/// that of the chain reached.
 pub fn check_peers<W: Word>(input: &[u8]) {
     let w = W::BITS;
     let mut opening = vec![0; W::CHAIN_BYTES];
@@ -35,7 +37,13 @@ pub fn check_peers<W: Word>(input: &[u8]) {
         assert_eq!(chain_after(forward, &opening, input), reached, "{name}, forward, w = {w}");
         assert_eq!(chain_after(backward, &reached, input), opening, "{name}, backward, w = {w}");
     }
-    assert_eq!(module_append::<W>(input), lsh_ref::load_word::<W>(&reached, 0).to_u64(), "Append, w = {w}");
+    assert_eq!(module_append::<W>(input), first_word::<W>(&reached), "Append, w = {w}");
+    let back = chain_after(reference_backward::<W>, &vec![0; W::CHAIN_BYTES], input);
+    assert_eq!(module_rewind::<W>(input), first_word::<W>(&back), "Rewind, w = {w}");
+}
+
+fn first_word<W: Word>(chain: &[u8]) -> u64 {
+    lsh_ref::load_word::<W>(chain, 0).to_u64()
 }
 
 fn chain_after(run: Run, start: &[u8], input: &[u8]) -> Vec<u8> {
@@ -56,6 +64,8 @@ pub fn timings<W: Word>(input: &[u8]) -> Vec<Timing<'_>> {
     }
     let append = |input: &[u8]| _ = black_box(module_append::<W>(input));
     timings.push(Timing::new::<W>(Task { peer: MODULE, work: APPEND }, input, append));
+    let rewind = |input: &[u8]| _ = black_box(module_rewind::<W>(input));
+    timings.push(Timing::new::<W>(Task { peer: MODULE, work: REWIND }, input, rewind));
     timings
 }
 

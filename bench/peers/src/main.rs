@@ -1,4 +1,4 @@
-//! Times block runs, Append and whole messages by the module, lsh_ref and Crypto++. `bench/run` builds and starts it.
+//! Times block runs, Append, Rewind and whole messages by the module, lsh_ref and Crypto++. `bench/run` builds and starts it.
 
 mod bars;
 mod blocks;
@@ -46,7 +46,7 @@ fn print_report(rates: &Rates) {
     );
     println!("digests and all buffers were touched.");
     table::print("Whole blocks over 1 MiB", &blocks::COLUMNS, rates);
-    table::print("Append of 1 MiB to a new record", &blocks::APPEND_COLUMNS, rates);
+    table::print("Append of 1 MiB to a new record, Rewind of 1 MiB", &blocks::RECORD_COLUMNS, rates);
     table::print("Whole messages, LSH-256-256 and LSH-512-512", &messages::COLUMNS, rates);
     bars::print(rates);
 }

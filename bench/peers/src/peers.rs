@@ -34,6 +34,7 @@ mod module {
         pub fn bench_forward512(chain: *mut u8, chain_len: usize, blocks: *const u8, blocks_len: usize) -> u32;
         pub fn bench_backward512(chain: *mut u8, chain_len: usize, blocks: *const u8, blocks_len: usize) -> u32;
         pub fn bench_append(w: u64, n: u64, piece: *const u8, piece_len: usize) -> u64;
+        pub fn bench_rewind(w: u64, total: u64, h: *const u8, h_len: usize) -> u64;
     }
 }
 
@@ -73,7 +74,7 @@ pub fn reference_forward<W: Word>(chain: &mut [u8], input: &[u8]) {
     lsh_ref::store_chain(&words, chain);
 }
 
-fn reference_backward<W: Word>(chain: &mut [u8], input: &[u8]) {
+pub fn reference_backward<W: Word>(chain: &mut [u8], input: &[u8]) {
     let mut words = lsh_ref::load_chain::<W>(chain);
     for block in input.chunks_exact(W::BLOCK_BYTES).rev() {
         words = lsh_ref::backward(&words, block);
@@ -85,6 +86,14 @@ fn reference_backward<W: Word>(chain: &mut [u8], input: &[u8]) {
 pub fn module_append<W: Word>(input: &[u8]) -> u64 {
     // SAFETY: the pointer comes with the length of its slice.
     unsafe { module::bench_append(W::BITS as u64, digest_bits::<W>(), input.as_ptr(), input.len()) }
+}
+
+/// Word 0 of the chain of a record after a Rewind of the input. The record has a chain of zeros and one block before
+/// the input, so that any chain reached is taken.
+pub fn module_rewind<W: Word>(input: &[u8]) -> u64 {
+    let total = (W::BLOCK_BYTES + input.len()) as u64;
+    // SAFETY: the pointer comes with the length of its slice.
+    unsafe { module::bench_rewind(W::BITS as u64, total, input.as_ptr(), input.len()) }
 }
 
 /// Writes the digest of a whole message where a receipt has it. A buffer is lent because the module and Crypto++ need

@@ -2,11 +2,13 @@
 ghost use mathlib.Core.Path.{_≡_};
 ghost use Rattle.lsh.specs.WordSize.{lsh256, lsh512};
 ghost use Rattle.lsh.specs.Block.{forwards, backwards};
-ghost use Rattle.bench_runs.specs.Runs.{runsAnswer, runsBytes};
+ghost use Rattle.bench_runs.specs.Runs.{runsAnswer, runsBytes, byHand};
 ghost use Rattle.lsh.specs.Tabulate.{at};
 ghost use Rattle.record.specs.Calls.{openCall, appendCall};
+ghost use Rattle.rewind.specs.Rewind.{rewindCall};
 use lsh256::Lsh256;
 use lsh512::Lsh512;
+use record::Record;
 
 #[no_mangle]
 pub extern "C" fn bench_forward256(chain: &mut [u8], blocks: &[u8]) -> u32
@@ -72,5 +74,23 @@ pub extern "C" fn bench_append(w: u64, n: u64, piece: &[u8]) -> u64
     let opened = record::open(w, n);
     let appended = record::append(opened.next, piece);
     let next = appended.next;
+    next.chain[0]
+}
+
+// Word 0 of the chain of a record made by hand after a Rewind.
+#[no_mangle]
+pub extern "C" fn bench_rewind(w: u64, total: u64, h: &[u8]) -> u64
+    ensures { λ r. ⌜ r ≡ at (rewindCall (byHand w total) 0 (now (h .entry)) .next .chain) 0 ⌝ }
+{
+    let held = runs::zero_bytes();
+    let r = Record {
+        w: w,
+        n: 256,
+        total: total,
+        chain: [0u64; 16],
+        held: held,
+    };
+    let rewound = rewind::rewind(r, 0, h);
+    let next = rewound.next;
     next.chain[0]
 }

@@ -24,6 +24,10 @@ all-zero : (k : ℕ) → allZero (replicate k 0) ≡ true
 all-zero zero = refl
 all-zero (suc k) = all-zero k
 
+pub opening-chain : (w n : ℕ) → Chain (sizeOf w) (opening (sizeOf w) n)
+unfolding opening
+opening-chain w n = forward-chain (sizeOf w) (amounts w) _ _
+
 module _ (w n : ℕ) (m : List ℕ) (word : isWordSize w ≡ true) where
   abbrev Z : WordSize
   Z = sizeOf w
@@ -31,12 +35,8 @@ module _ (w n : ℕ) (m : List ℕ) (word : isWordSize w ≡ true) where
   abbrev chain : List ℕ
   chain = forwards Z (blocksOf Z m) (opening Z n)
 
-  opening-is : Chain Z (opening Z n)
-  unfolding opening
-  opening-is = forward-chain Z (amounts w) _ _
-
   chain-is : Chain Z chain
-  chain-is = forwards-chain Z (amounts w) (blocksOf Z m) (opening Z n) opening-is
+  chain-is = forwards-chain Z (amounts w) (blocksOf Z m) (opening Z n) (opening-chain w n)
 
   below : allBelow (2 ^ w) chain ≡ true
   below = all-below (2 ^ w) chain (λ l. subst (λ (v : ℕ). at chain l < 2 ^ v) (bits-are w word) (chain-is .below l))

@@ -1,5 +1,5 @@
-// Prints what some calls of Open and Append answer, most of them at the limits of what is taken. What it prints is held to the file
-// stdout, with the answers that document 01 asks for.
+// Prints what some calls of Open, Append and Rewind answer, most of them at the limits of what is taken. What it prints is held to the
+// file stdout, with the answers that document 01 asks for.
 use libc::STDOUT_FILENO;
 use record::Record;
 
@@ -11,6 +11,8 @@ fn main() {
     pieces();
     last_byte();
     unsound();
+    rewinds();
+    other_bytes();
 }
 
 // A new record takes 300 bytes, none of them 0, and then an empty piece.
@@ -35,6 +37,41 @@ fn last_byte() {
 fn unsound() {
     let one = [1u8; 1];
     show_append(by_hand(0, 0), &one);
+}
+
+// A record of 300 bytes is wound back by its last bytes.
+fn rewinds() {
+    let opened = record::open(32, 256);
+    let long = [1u8; 300];
+    let appended = record::append(opened.next, &long);
+    let r = appended.next;
+    show_rewind(r, 10, &long[128..]);
+    show_rewind(r, 0, &long[129..]);
+    let same = show_rewind(r, 44, &long[256..]);
+    show_same(r, same);
+    show_rewind(r, 45, &long[256..]);
+    show_rewind(r, 128, &long[128..]);
+    show_rewind(r, 127, &long[128..]);
+    let none = show_rewind(r, 0, &long);
+    show_same(opened.next, none);
+}
+
+// Bytes are handed back that are not the order's: a held one, and one of a whole block. The latter shows only where the whole order is handed
+// back, so that the opening chain is known. A record that is no order's gets 9 even where no block is run.
+fn other_bytes() {
+    let opened = record::open(32, 256);
+    let long = [1u8; 300];
+    let appended = record::append(opened.next, &long);
+    let r = appended.next;
+    let mut other = long;
+    other[299] = 2;
+    show_rewind(r, 0, &other[128..]);
+    other[299] = 1;
+    other[200] = 2;
+    show_rewind(r, 0, &other[128..]);
+    show_rewind(r, 0, &other);
+    show_rewind(by_hand(32, 0), 0, &other[300..]);
+    show_rewind(by_hand(0, 0), 0, &other[300..]);
 }
 
 // A record with n = 256 whose chain and held bytes are zeros.
@@ -68,6 +105,34 @@ fn show_append(r: Record, piece: &[u8]) -> Record {
     figure(b", total ", next.total);
     io::write_all(STDOUT_FILENO, b"\n");
     next
+}
+
+// Hands the last bytes h back, prints the answer, and returns the record that follows.
+fn show_rewind(r: Record, keep: u64, h: &[u8]) -> Record {
+    let o = rewind::rewind(r, keep, h);
+    let next = o.next;
+    figure(b"rewind, w = ", r.w);
+    figure(b", total ", r.total);
+    figure(b", length ", h.len() as u64);
+    figure(b", keep ", keep);
+    figure(b": number ", o.number as u64);
+    figure(b", blocks ", o.count);
+    figure(b", total ", next.total);
+    io::write_all(STDOUT_FILENO, b"\n");
+    next
+}
+
+// Whether the two records have the same chain and the same held bytes.
+fn show_same(a: Record, b: Record) {
+    let held = a.held;
+    let other = b.held;
+    if equal::equal_chains(a.chain, b.chain) {
+        if equal::equal_bytes(&held, &other) {
+            io::write_all(STDOUT_FILENO, b"the same chain and held bytes\n");
+            return;
+        }
+    }
+    io::write_all(STDOUT_FILENO, b"another chain or other held bytes\n");
 }
 
 // How many of the held bytes are not 0.

@@ -1,7 +1,6 @@
 // Rewind: the end of an order is taken back by running its blocks backward.
 ghost use mathlib.Core.Path.{_≡_};
 ghost use mathlib.Core.Bool.{true, false, not, _&&_};
-ghost use Prim.Native.Nat.{_≤_};
 ghost use lib.Dec.{eqb};
 ghost use lib.ListN.{length};
 ghost use Rattle.lsh.specs.WordSize.{isWordSize, sizeOf, blockBytes};

@@ -1,7 +1,11 @@
-//! The module's calls for C as safe Rust functions, and random bytes to try them on.
+//! The module's calls for C as safe Rust functions, the program replay for the others, and random bytes to try them on.
 //!
 //! Each call is declared and wrapped here alone. Nothing checks the declarations against the module: they repeat those
 //! of `include/lsh_kiosk.h`.
+
+mod replay;
+
+pub use replay::{hex, replay};
 
 /// What a call answers.
 pub const ACCEPTED: u32 = 0;

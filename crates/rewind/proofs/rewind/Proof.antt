@@ -7,7 +7,7 @@ use borrow.Author.Tests.{not-true, not-false}
 use Rattle.lsh.specs.WordSize.{isWordSize, sizeOf, blockBytes}
 use Rattle.record.specs.Record.{sound}
 use Rattle.record.proofs.Sound.{sounds}
-use Rattle.rewind.specs.Rewind.{startsOffBlock, keepsTooMuch, rewindCall}
+use Rattle.rewind.specs.Rewind.{startsOffBlock, rewindCall}
 use Rattle.rewind.proofs.rewind.Statement.{statement}
 use Rattle.rewind.proofs.rewind.Tie as tie
 

@@ -1,0 +1,6 @@
+-- Demand 3 and what it is made of.
+pub mod Simulation
+pub mod Splitting
+pub mod Steps
+pub mod Corrected
+pub mod Receipts

@@ -1,0 +1,4 @@
+pub mod Sequence
+pub mod Tape
+pub mod Calls
+pub mod Corrected

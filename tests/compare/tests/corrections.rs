@@ -1,0 +1,249 @@
+//! Lists of Append and Rewind calls against document 01's plain tape, written here, and against lsh_ref.
+
+use compare::{hex, replay, Random};
+use lsh_ref::Word;
+
+/// The most bytes of an order.
+const LIMIT: u64 = 1 << 40;
+
+/// The answer to a call: its number, and the count of blocks.
+#[derive(Clone, Copy, PartialEq, Eq, Debug)]
+struct Answer {
+    number: u32,
+    count: usize,
+}
+
+/// The tape: the bytes of the order. It refuses by lengths alone.
+struct Tape {
+    block: usize,
+    bytes: Vec<u8>,
+}
+
+impl Tape {
+    fn whole_blocks(&self) -> usize {
+        self.bytes.len() / self.block
+    }
+
+    fn append(&mut self, piece: &[u8]) -> Answer {
+        if (self.bytes.len() + piece.len()) as u64 > LIMIT {
+            return Answer { number: 5, count: 0 };
+        }
+        let before = self.whole_blocks();
+        self.bytes.extend(piece);
+        Answer { number: 0, count: self.whole_blocks() - before }
+    }
+
+    fn rewind(&mut self, keep: u64, size: usize) -> Answer {
+        if size > self.bytes.len() || (self.bytes.len() - size) % self.block != 0 {
+            return Answer { number: 6, count: 0 };
+        }
+        if keep > size as u64 || keep >= self.block as u64 {
+            return Answer { number: 7, count: 0 };
+        }
+        self.bytes.truncate(self.bytes.len() - size + keep as usize);
+        Answer { number: 0, count: size / self.block }
+    }
+}
+
+/// A list of calls as it is made: the script, and the answers that the tape gives.
+struct List<'a> {
+    tape: Tape,
+    script: String,
+    expected: Vec<String>,
+    forward: usize,
+    backward: usize,
+    random: &'a mut Random,
+}
+
+impl List<'_> {
+    fn append(&mut self, piece: &[u8]) {
+        let Answer { number, count } = self.tape.append(piece);
+        self.forward += count;
+        self.call(format!("append {}", hex(piece)), format!("append {number} {count}"));
+    }
+
+    /// Hands back the last bytes of the tape, as many as `size`.
+    fn rewind(&mut self, keep: u64, size: usize) {
+        let h = self.tape.bytes[self.tape.bytes.len() - size..].to_vec();
+        let Answer { number, count } = self.tape.rewind(keep, size);
+        self.backward += count;
+        self.rewind_call(keep, &h, number, count);
+    }
+
+    fn rewind_call(&mut self, keep: u64, h: &[u8], number: u32, count: usize) {
+        self.call(format!("rewind {keep} {}", hex(h)), format!("rewind {number} {count}"));
+    }
+
+    fn call(&mut self, line: String, answer: String) {
+        self.script += &line;
+        self.script.push('\n');
+        self.expected.push(answer);
+    }
+
+    fn below(&mut self, limit: usize) -> usize {
+        self.random.below(limit as u64) as usize
+    }
+
+    /// The size of the last bytes from a random block on, at most 16 blocks.
+    fn size_from_block(&mut self) -> usize {
+        let blocks = self.tape.whole_blocks();
+        let back = self.below(blocks.min(16) + 1);
+        self.tape.bytes.len() - (blocks - back) * self.tape.block
+    }
+
+    fn random_call(&mut self) {
+        let block = self.tape.block;
+        match self.below(12) {
+            0..=4 => {
+                let size = self.below(3 * block + 2);
+                let piece = self.random.bytes(size);
+                self.append(&piece);
+            }
+            5..=8 => {
+                let size = self.size_from_block();
+                let keep = self.below(size.min(block - 1) + 1);
+                self.rewind(keep as u64, size);
+            }
+            9 => self.refused_by_lengths(),
+            10 => self.refused_by_held_bytes(),
+            _ => self.refused_by_opening_chain(),
+        }
+    }
+
+    /// 6 or 7, by lengths at random.
+    fn refused_by_lengths(&mut self) {
+        let block = self.tape.block;
+        match self.below(4) {
+            // Longer than the order.
+            0 => {
+                let h = self.random.bytes(self.tape.bytes.len() + 1);
+                let Answer { number, count } = self.tape.rewind(0, h.len());
+                self.rewind_call(0, &h, number, count);
+            }
+            // Not from a block on, mostly.
+            1 => {
+                let size = self.below(self.tape.bytes.len().min(3 * block) + 1);
+                self.rewind(0, size);
+            }
+            // A block or more, or any number.
+            2 => {
+                let size = self.size_from_block();
+                self.rewind(block as u64, size);
+            }
+            _ => {
+                let size = self.size_from_block();
+                self.rewind(u64::MAX, size);
+            }
+        }
+    }
+
+    /// 8: one of the held bytes is another. The tape knows nothing of it and is not asked.
+    fn refused_by_held_bytes(&mut self) {
+        let held = self.tape.bytes.len() % self.tape.block;
+        if held == 0 {
+            return;
+        }
+        let size = self.size_from_block();
+        let mut h = self.tape.bytes[self.tape.bytes.len() - size..].to_vec();
+        let place = size - 1 - self.below(held);
+        h[place] ^= 1 << self.below(8);
+        self.rewind_call(0, &h, 8, 0);
+    }
+
+    /// 9: the whole order is handed back, and one byte of its whole blocks is another.
+    fn refused_by_opening_chain(&mut self) {
+        let whole = self.tape.whole_blocks() * self.tape.block;
+        if whole == 0 {
+            return;
+        }
+        let mut h = self.tape.bytes.clone();
+        let place = self.below(whole);
+        h[place] ^= 1 << self.below(8);
+        self.rewind_call(0, &h, 9, 0);
+    }
+}
+
+/// The line that shows the record of the bytes, by lsh_ref.
+fn record_line<W: Word>(n: u64, bytes: &[u8]) -> String {
+    let mut chain = lsh_ref::opening_chain::<W>(n);
+    let blocks = bytes.chunks_exact(W::BLOCK_BYTES);
+    let rest = blocks.remainder();
+    for block in blocks {
+        chain = lsh_ref::forward(&chain, block);
+    }
+    let words: String = chain.iter().map(|word| format!("{:016x}", word.to_u64())).collect();
+    let mut held = rest.to_vec();
+    held.resize(256, 0);
+    format!("record {} {n} {} {words} {}", W::BITS, bytes.len(), hex(&held))
+}
+
+/// The line that shows the receipt of the bytes and the top e bits of the last byte, by lsh_ref.
+fn close_line<W: Word>(n: u64, bytes: &[u8], last: u8, e: u32) -> String {
+    let mut receipt = vec![W::BITS as u8, 0, n as u8, (n >> 8) as u8];
+    receipt.extend(lsh_ref::hash_bits::<W>(n, bytes, last, e));
+    receipt.resize(68, 0);
+    receipt.extend([0xa5; 2]);
+    format!("close 0 {}", hex(&receipt))
+}
+
+/// A random list of calls, with the record and a receipt after it.
+fn compare_list<W: Word>(calls: usize, random: &mut Random) {
+    let n = 1 + random.below(8 * W::BITS as u64);
+    let mut list = List {
+        tape: Tape { block: W::BLOCK_BYTES, bytes: Vec::new() },
+        script: String::new(),
+        expected: Vec::new(),
+        forward: 0,
+        backward: 0,
+        random,
+    };
+    list.call(format!("open {} {n}", W::BITS), "open 0".to_string());
+    for _ in 0..calls {
+        list.random_call();
+    }
+    list.call("record".to_string(), record_line::<W>(n, &list.tape.bytes));
+    list.call("close e8 5 70".to_string(), close_line::<W>(n, &list.tape.bytes, 0xe8, 5));
+
+    assert_eq!(list.forward, list.backward + list.tape.whole_blocks());
+    let printed = replay(list.script);
+    assert_eq!(printed.len(), list.expected.len());
+    for (place, (line, expected)) in printed.iter().zip(&list.expected).enumerate() {
+        assert_eq!(line, expected, "call {place} of a list, w = {}", W::BITS);
+    }
+}
+
+fn compare_lists<W: Word>() {
+    let mut random = Random::new(3 * W::BITS as u64);
+    for _ in 0..200 {
+        let calls = random.below(60) as usize;
+        compare_list::<W>(calls, &mut random);
+    }
+}
+
+#[test]
+fn short_lists_32() {
+    compare_lists::<u32>();
+}
+
+#[test]
+fn short_lists_64() {
+    compare_lists::<u64>();
+}
+
+/// Lists of thousands of calls.
+fn compare_long_lists<W: Word>() {
+    let mut random = Random::new(5 * W::BITS as u64);
+    for _ in 0..3 {
+        compare_list::<W>(4000, &mut random);
+    }
+}
+
+#[test]
+fn long_lists_32() {
+    compare_long_lists::<u32>();
+}
+
+#[test]
+fn long_lists_64() {
+    compare_long_lists::<u64>();
+}
