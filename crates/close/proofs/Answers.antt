@@ -19,9 +19,9 @@ use Rattle.message.proofs.Padded.{padded-bytes}
 use Rattle.record.specs.declared.Record.{Record}
 use Rattle.record.specs.Record.{sound, heldBytes}
 use Rattle.record.proofs.Sound.{sounds}
-use Rattle.receipt.specs.Receipt.{receiptBytes, receipt}
-use Rattle.receipt.specs.Ending.{messageBits, endAnswer}
-use Rattle.receipt.proofs.Ending.{Ended, ended}
+use Rattle.finalization.specs.Receipt.{receiptBytes, receipt}
+use Rattle.finalization.specs.Ending.{messageBits, endAnswer}
+use Rattle.finalization.proofs.Ending.{Ended, ended}
 use Rattle.close.specs.Close.{closeAnswer, closedDigest, closeOutput}
 use Rattle.close.proofs.HeldBytes.{held-bytes, held-short}
 

@@ -25,8 +25,8 @@ use Rattle.runs.specs.Limits.{isDigestLength, limit}
 use Rattle.record.specs.declared.Record.{Record}
 use Rattle.record.specs.Record.{heldBytes, recordOf}
 use Rattle.record.proofs.Strings.{held-record, record-sound}
-use Rattle.receipt.specs.Receipt.{receiptBytes, receipt}
-use Rattle.receipt.specs.Ending.{messageBits}
+use Rattle.finalization.specs.Receipt.{receiptBytes, receipt}
+use Rattle.finalization.specs.Ending.{messageBits}
 use Rattle.whole.specs.Whole.{wholeAnswer, wholeOutput}
 use Rattle.whole.proofs.Answers.{accepted}
 use Rattle.close.specs.Close.{closeAnswer, closedDigest, closeOutput}

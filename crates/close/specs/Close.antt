@@ -12,8 +12,8 @@ use Rattle.lsh.specs.Padding.{padded, blocksOf}
 use Rattle.lsh.specs.Hash.{digest}
 use Rattle.record.specs.declared.Record.{Record}
 use Rattle.record.specs.Record.{sound, heldBytes}
-use Rattle.receipt.specs.Receipt.{receiptBytes, receipt}
-use Rattle.receipt.specs.Ending.{messageBits, endAnswer}
+use Rattle.finalization.specs.Receipt.{receiptBytes, receipt}
+use Rattle.finalization.specs.Ending.{messageBits, endAnswer}
 
 -- by the record, the last byte with e bits, and the size of the output: 3 if the record is not sound, and then the answer of the message's end
 unfoldable pub closeAnswer : Record → ℕ → ℕ → ℕ → ℕ

@@ -21,8 +21,8 @@ pub fn close(r: record::Record, last: u8, e: u64, output: &mut [u8]) -> u32
     }
     let w = r.w;
     let n = r.n;
-    let t = final_chain(r, receipt::pad_byte(last, e as u32));
-    receipt::write_receipt(w, n, t, output);
+    let t = final_chain(r, finalization::pad_byte(last, e as u32));
+    finalization::write_receipt(w, n, t, output);
     0
 }
 
@@ -33,7 +33,7 @@ fn answer(r: record::Record, last: u8, e: u64, size: usize) -> u32
     if !record::is_sound(r) {
         return 3;
     }
-    receipt::end_answer(last, e, size)
+    finalization::end_answer(last, e, size)
 }
 
 // The chain after the last block: the bytes held, padded from the byte pad on.
@@ -46,5 +46,5 @@ fn final_chain(r: record::Record, pad: u8) -> [u64; 16]
     let chain = r.chain;
     let held = r.held;
     let at = (total % (4 * w)) as usize;
-    receipt::last_chain(w, chain, &held[..at], pad)
+    finalization::last_chain(w, chain, &held[..at], pad)
 }

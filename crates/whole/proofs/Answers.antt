@@ -18,9 +18,9 @@ use Rattle.lsh.proofs.Bytes.{Bytes}
 use Rattle.lsh.proofs.Figures.{block-some}
 use Rattle.message.proofs.Padded.{padded-bytes}
 use Rattle.runs.specs.Limits.{isDigestLength, limit}
-use Rattle.receipt.specs.Receipt.{receiptBytes, receipt}
-use Rattle.receipt.specs.Ending.{messageBits, endAnswer}
-use Rattle.receipt.proofs.Ending.{Ended, ended}
+use Rattle.finalization.specs.Receipt.{receiptBytes, receipt}
+use Rattle.finalization.specs.Ending.{messageBits, endAnswer}
+use Rattle.finalization.proofs.Ending.{Ended, ended}
 use Rattle.whole.specs.Whole.{wholeAnswer, wholeOutput}
 
 -- an accepted call

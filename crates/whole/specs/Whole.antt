@@ -8,8 +8,8 @@ use lib.ListN.{length, drop}
 use Rattle.lsh.specs.WordSize.{isWordSize}
 use Rattle.lsh.specs.Hash.{lsh}
 use Rattle.runs.specs.Limits.{isDigestLength, limit}
-use Rattle.receipt.specs.Receipt.{receiptBytes, receipt}
-use Rattle.receipt.specs.Ending.{messageBits, endAnswer}
+use Rattle.finalization.specs.Receipt.{receiptBytes, receipt}
+use Rattle.finalization.specs.Ending.{messageBits, endAnswer}
 
 -- by w, n, the length of the message, its last byte with e bits, and the size of the output: 1 if w is neither 32 nor 64, then 2 if n is no
 -- digest length, then 5 if the message is above the limit, and then the answer of its end

@@ -19,8 +19,8 @@ pub fn whole(w: u64, n: u64, message: &[u8], last: u8, e: u64, output: &mut [u8]
     if a != 0 {
         return a;
     }
-    let t = final_chain(w, n, message, receipt::pad_byte(last, e as u32));
-    receipt::write_receipt(w, n, t, output);
+    let t = final_chain(w, n, message, finalization::pad_byte(last, e as u32));
+    finalization::write_receipt(w, n, t, output);
     0
 }
 
@@ -37,7 +37,7 @@ fn answer(w: u64, n: u64, len: usize, last: u8, e: u64, size: usize) -> u32
     if runs::LIMIT < len {
         return 5;
     }
-    receipt::end_answer(last, e, size)
+    finalization::end_answer(last, e, size)
 }
 
 // The chain after the blocks of a message that is padded from the byte pad on.
@@ -49,5 +49,5 @@ fn final_chain(w: u64, n: u64, message: &[u8], pad: u8) -> [u64; 16]
     let c = run.chain;
     let size = (4 * w) as usize;
     let whole = run.count * size;
-    receipt::last_chain(w, c, &message[whole..], pad)
+    finalization::last_chain(w, c, &message[whole..], pad)
 }

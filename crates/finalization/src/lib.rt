@@ -11,8 +11,8 @@ ghost use Rattle.lsh.specs.Block.{Chain, forwards};
 ghost use Rattle.lsh.specs.Bits.{bytesOfBits};
 ghost use Rattle.lsh.specs.Padding.{blocksOf};
 ghost use Rattle.lsh.specs.Hash.{finalBytes, digest};
-ghost use Rattle.receipt.specs.Receipt.{receiptBytes, receipt};
-ghost use Rattle.receipt.specs.Ending.{endAnswer};
+ghost use Rattle.finalization.specs.Receipt.{receiptBytes, receipt};
+ghost use Rattle.finalization.specs.Ending.{endAnswer};
 
 pub const RECEIPT: usize = 68;
 

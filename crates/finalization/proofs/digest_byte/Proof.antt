@@ -1,12 +1,12 @@
--- `receipt::digest_byte` meets its contract. Assumes nothing.
+-- `finalization::digest_byte` meets its contract. Assumes nothing.
 use mathlib.Core.Path.{sym, ap, ap₂, _∙_}
 use Prim.Native.Nat.{ℕ, _-_, _%_, _^_}
 use native.Mathlib.Omega.{arith}
 use native.Mathlib.Nat.{mod-le}
 use borrow.Author.Needs.{needs}
-use Rattle.receipt.proofs.Receipts.{whole-byte, cut-byte, no-byte}
-use Rattle.receipt.proofs.digest_byte.Statement.{statement}
-use Rattle.receipt.proofs.digest_byte.Tie as tie
+use Rattle.finalization.proofs.Receipts.{whole-byte, cut-byte, no-byte}
+use Rattle.finalization.proofs.digest_byte.Statement.{statement}
+use Rattle.finalization.proofs.digest_byte.Tie as tie
 
 pub digest-byte-spec : {M : Type 1} → statement M
 digest-byte-spec =

@@ -1,11 +1,11 @@
--- `receipt::end_answer` meets its contract. Assumes nothing.
+-- `finalization::end_answer` meets its contract. Assumes nothing.
 use mathlib.Core.Path.{sym, _∙_}
 use borrow.Author.Needs.{needs}
 use borrow.Author.Tests.{lt-ltb, le-ltb, eq-eqb, ne-eqb}
-use Rattle.receipt.specs.Receipt.{receiptBytes}
-use Rattle.receipt.specs.Ending.{endAnswer}
-use Rattle.receipt.proofs.end_answer.Statement.{statement}
-use Rattle.receipt.proofs.end_answer.Tie as tie
+use Rattle.finalization.specs.Receipt.{receiptBytes}
+use Rattle.finalization.specs.Ending.{endAnswer}
+use Rattle.finalization.proofs.end_answer.Statement.{statement}
+use Rattle.finalization.proofs.end_answer.Tie as tie
 
 pub end-answer-spec : {M : Type 1} → statement M
 unfolding endAnswer receiptBytes

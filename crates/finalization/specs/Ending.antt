@@ -6,7 +6,7 @@ use Prim.Native.Nat.{ℕ, _-_, _%_, _^_}
 use lib.Dec.{ltb, eqb}
 use lib.ListN.{take}
 use Rattle.lsh.specs.Bits.{bitsOfByte, bitsOf}
-use Rattle.receipt.specs.Receipt.{receiptBytes}
+use Rattle.finalization.specs.Receipt.{receiptBytes}
 
 -- the bits of the message bytes s, and then the top e bits of the last byte
 unfoldable pub messageBits : List ℕ → ℕ → ℕ → List Bool

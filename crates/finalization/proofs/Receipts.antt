@@ -20,8 +20,8 @@ use Rattle.lsh.proofs.Bytes.{octets}
 use Rattle.lsh.proofs.Opening.{at-zeros}
 use Rattle.message.proofs.Digest.{digest-bytes}
 use Rattle.engine.proofs.Places.{Placed, stored-front}
-use Rattle.receipt.specs.Receipt.{receiptBytes, receipt}
-use Rattle.receipt.proofs.FinalBytes.{length-final, final-bytes}
+use Rattle.finalization.specs.Receipt.{receiptBytes, receipt}
+use Rattle.finalization.proofs.FinalBytes.{length-final, final-bytes}
 
 module _ (w n : ℕ) (t : List ℕ) (size : isWordSize w ≡ true) (le : n ≤ 8 * w) where
   abbrev h : List ℕ

@@ -1,4 +1,4 @@
--- `receipt::last_chain` meets its contract. Assumes nothing.
+-- `finalization::last_chain` meets its contract. Assumes nothing.
 use mathlib.Core.Path.{sym, ap, _∙_}
 use mathlib.Core.List.{List}
 use Prim.Native.Nat.{ℕ}
@@ -9,9 +9,9 @@ use Rattle.lsh.specs.WordSize.{sizeOf}
 use Rattle.lsh.specs.Block.{forwards}
 use Rattle.lsh.specs.Padding.{blocksOf}
 use Rattle.runs.proofs.Sizes.{bytes-most}
-use Rattle.receipt.proofs.LastBlock.{short, long, last-block}
-use Rattle.receipt.proofs.last_chain.Statement.{statement}
-use Rattle.receipt.proofs.last_chain.Tie as tie
+use Rattle.finalization.proofs.LastBlock.{short, long, last-block}
+use Rattle.finalization.proofs.last_chain.Statement.{statement}
+use Rattle.finalization.proofs.last_chain.Tie as tie
 
 pub last-chain-spec : {M : Type 1} → statement M
 last-chain-spec =

@@ -1,4 +1,4 @@
--- `receipt::last_block` meets its contract. Assumes nothing.
+-- `finalization::last_block` meets its contract. Assumes nothing.
 use mathlib.Core.Path.{refl}
 use Prim.Native.Nat.{_-_}
 use native.Mathlib.Omega.{arith}
@@ -6,9 +6,9 @@ use lib.ListN.{length}
 use borrow.Author.Needs.{needs}
 use Rattle.lsh.specs.Tabulate.{at}
 use Rattle.engine.proofs.Places.{Placed, placed-none, filled-more}
-use Rattle.receipt.proofs.LastBlock.{room, stored-block}
-use Rattle.receipt.proofs.last_block.Statement.{statement}
-use Rattle.receipt.proofs.last_block.Tie as tie
+use Rattle.finalization.proofs.LastBlock.{room, stored-block}
+use Rattle.finalization.proofs.last_block.Statement.{statement}
+use Rattle.finalization.proofs.last_block.Tie as tie
 
 abbrev Inv-loop : tie.InvT-loop
 Inv-loop rest pad b₀ n i₀ b i = Placed (length rest) (λ k. k) (at rest) b₀ b i

@@ -1,10 +1,10 @@
--- `receipt::pad_byte` meets its contract. Assumes nothing.
+-- `finalization::pad_byte` meets its contract. Assumes nothing.
 use mathlib.Core.Path.{ap}
 use Prim.Native.Nat.{ℕ, _+_}
 use borrow.Author.Needs.{needs}
-use Rattle.receipt.proofs.LastByte.{next-bit, next-fits}
-use Rattle.receipt.proofs.pad_byte.Statement.{statement}
-use Rattle.receipt.proofs.pad_byte.Tie as tie
+use Rattle.finalization.proofs.LastByte.{next-bit, next-fits}
+use Rattle.finalization.proofs.pad_byte.Statement.{statement}
+use Rattle.finalization.proofs.pad_byte.Tie as tie
 
 pub pad-byte-spec : {M : Type 1} → statement M
 pad-byte-spec =

@@ -1,13 +1,13 @@
--- `receipt::final_byte` meets its contract, by w. Assumes nothing.
+-- `finalization::final_byte` meets its contract, by w. Assumes nothing.
 use mathlib.Core.Path.{ap, _∙_}
 use Prim.Native.Nat.{ℕ, _%_}
 use native.Mathlib.Omega.{arith}
 use borrow.Author.Needs.{needs}
 use Rattle.lsh.specs.Bytes.{byteAt}
 use Rattle.runs.proofs.Sizes.{bytes-most}
-use Rattle.receipt.proofs.FinalBytes.{final-32, final-64}
-use Rattle.receipt.proofs.final_byte.Statement.{statement}
-use Rattle.receipt.proofs.final_byte.Tie as tie
+use Rattle.finalization.proofs.FinalBytes.{final-32, final-64}
+use Rattle.finalization.proofs.final_byte.Statement.{statement}
+use Rattle.finalization.proofs.final_byte.Tie as tie
 
 pub final-byte-spec : {M : Type 1} → statement M
 final-byte-spec =

@@ -1,4 +1,4 @@
--- `receipt::write_receipt` meets its contract. Assumes nothing.
+-- `finalization::write_receipt` meets its contract. Assumes nothing.
 use Prim.Native.Nat.{_-_}
 use native.Mathlib.Omega.{arith}
 use borrow.Author.Needs.{needs}
@@ -6,10 +6,10 @@ use Rattle.lsh.specs.Tabulate.{at}
 use Rattle.lsh.specs.WordSize.{sizeOf}
 use Rattle.lsh.specs.Hash.{digest}
 use Rattle.engine.proofs.Places.{Placed, placed-none, filled-more}
-use Rattle.receipt.specs.Receipt.{receiptBytes, receipt}
-use Rattle.receipt.proofs.Receipts.{written}
-use Rattle.receipt.proofs.write_receipt.Statement.{statement}
-use Rattle.receipt.proofs.write_receipt.Tie as tie
+use Rattle.finalization.specs.Receipt.{receiptBytes, receipt}
+use Rattle.finalization.proofs.Receipts.{written}
+use Rattle.finalization.proofs.write_receipt.Statement.{statement}
+use Rattle.finalization.proofs.write_receipt.Tie as tie
 
 abbrev Inv-loop : tie.InvT-loop
 Inv-loop w n t output₀ end i₀ output i = Placed 68 (λ k. k) (at (receipt w n (digest (sizeOf w) n t))) output₀ output i

@@ -1,12 +1,12 @@
--- `receipt::receipt_byte` meets its contract. Assumes nothing.
+-- `finalization::receipt_byte` meets its contract. Assumes nothing.
 use mathlib.Core.Path.{_∙_}
 use Prim.Native.Nat.{suc, _-_}
 use native.Mathlib.Omega.{arith}
 use borrow.Author.Needs.{needs}
 use Rattle.runs.proofs.Sizes.{bytes-most}
-use Rattle.receipt.proofs.Receipts.{at-receipt}
-use Rattle.receipt.proofs.receipt_byte.Statement.{statement}
-use Rattle.receipt.proofs.receipt_byte.Tie as tie
+use Rattle.finalization.proofs.Receipts.{at-receipt}
+use Rattle.finalization.proofs.receipt_byte.Statement.{statement}
+use Rattle.finalization.proofs.receipt_byte.Tie as tie
 
 pub receipt-byte-spec : {M : Type 1} → statement M
 receipt-byte-spec =

@@ -6,8 +6,8 @@ use Prim.Native.Nat.{ℕ, _-_, _%_, _^_, _≤_}
 use native.Mathlib.Omega.{arith}
 use borrow.Author.Tests.{ltb-false, eqb-true}
 use lib.Dec.{ltb, eqb}
-use Rattle.receipt.specs.Receipt.{receiptBytes}
-use Rattle.receipt.specs.Ending.{endAnswer}
+use Rattle.finalization.specs.Receipt.{receiptBytes}
+use Rattle.finalization.specs.Ending.{endAnswer}
 
 -- an accepted end
 pub record Ended (last e size : ℕ) : Type 0 where

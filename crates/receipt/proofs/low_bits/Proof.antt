@@ -1,8 +1,0 @@
--- `receipt::low_bits` meets its contract. Assumes nothing.
-use borrow.Author.Needs.{needs}
-use Rattle.receipt.proofs.LastByte.{low}
-use Rattle.receipt.proofs.low_bits.Statement.{statement}
-use Rattle.receipt.proofs.low_bits.Tie as tie
-
-pub low-bits-spec : {M : Type 1} → statement M
-low-bits-spec = tie.close (tie.spec (λ c. search needs) (λ c. search needs) (λ c. low _ _ (c .pre)))
