@@ -6,6 +6,7 @@ ghost use Rattle.bench_runs.specs.Runs.{runsAnswer, runsBytes, byHand};
 ghost use Rattle.lsh.specs.Tabulate.{at};
 ghost use Rattle.record.specs.Calls.{openCall, appendCall};
 ghost use Rattle.rewind.specs.Rewind.{rewindCall};
+ghost use Rattle.till.specs.Tally.{tallyCall};
 use lsh256::Lsh256;
 use lsh512::Lsh512;
 use record::Record;
@@ -93,4 +94,13 @@ pub extern "C" fn bench_rewind(w: u64, total: u64, h: &[u8]) -> u64
     let rewound = rewind::rewind(r, 0, h);
     let next = rewound.next;
     next.chain[0]
+}
+
+// How many receipts of the list are firsts.
+#[no_mangle]
+pub extern "C" fn bench_tally(list: &[u8]) -> u64
+    ensures { λ r. ⌜ r ≡ tallyCall (now (list .entry)) .firsts ⌝ }
+{
+    let counts = till::tally(list);
+    counts.firsts
 }

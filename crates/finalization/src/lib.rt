@@ -33,7 +33,7 @@ pub fn end_answer(last: u8, e: u64, size: usize) -> u32
 }
 
 // The low 8 - e bits of a byte.
-fn low_bits(x: u8, e: u32) -> u8
+pub fn low_bits(x: u8, e: u32) -> u8
     requires { ⌜ e ≤ 7 ⌝ }
     ensures { λ r. ⌜ r ≡ x % 2 ^ (8 - e) ⌝ }
 {

@@ -20,7 +20,7 @@ use Rattle.runs.specs.Limits.{isDigestLength, limit}
 use Rattle.record.specs.Record.{heldOf, allBelow, allZero, sound, heldBytes, recordOf}
 use Rattle.record.proofs.Lists.{all-below}
 
-all-zero : (k : ℕ) → allZero (replicate k 0) ≡ true
+pub all-zero : (k : ℕ) → allZero (replicate k 0) ≡ true
 all-zero zero = refl
 all-zero (suc k) = all-zero k
 

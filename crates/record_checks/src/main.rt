@@ -126,7 +126,9 @@ fn show_rewind(r: Record, keep: u64, h: &[u8]) -> Record {
 fn show_same(a: Record, b: Record) {
     let held = a.held;
     let other = b.held;
-    if equal::equal_chains(a.chain, b.chain) {
+    let chain = a.chain;
+    let reached = b.chain;
+    if equal::equal_chains(chain, reached) {
         if equal::equal_bytes(&held, &other) {
             io::write_all(STDOUT_FILENO, b"the same chain and held bytes\n");
             return;

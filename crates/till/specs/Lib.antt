@@ -1,0 +1,4 @@
+pub mod WellFormed
+pub mod Same
+pub mod Tally
+pub mod Checksum

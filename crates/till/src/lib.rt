@@ -1,0 +1,264 @@
+// Same and Tally: receipts compared, and a list of them counted.
+ghost use mathlib.Core.Path.{_≡_};
+ghost use Prim.Native.Nat.{ℕ, _*_, _<_, _≤_};
+ghost use lib.ListN.{length, drop};
+ghost use Rattle.lsh.specs.Tabulate.{at};
+ghost use Rattle.finalization.specs.Receipt.{receiptBytes};
+ghost use Rattle.record.specs.Record.{allZero};
+ghost use Rattle.equal.specs.Equal.{equal};
+ghost use Rattle.till.specs.WellFormed.{lengthOf, unusedZero, wellFormed};
+ghost use Rattle.till.specs.Same.{sameCall};
+ghost use Rattle.till.specs.Tally.{mostReceipts, receiptCount, receiptAt, receipts, firstMalformed, isOneOf, counted, refused, tallyCall};
+ghost use Rattle.till.specs.Checksum.{checksum};
+use finalization::RECEIPT;
+
+// The most receipts of a list.
+pub const MOST_RECEIPTS: usize = 960;
+
+// The answer to Same: its number, and whether the two receipts are the same.
+pub struct Sameness {
+    pub number: u32,
+    pub same: bool,
+}
+
+// The answer to Tally: its number, the place of the first malformed receipt if the number is 14, and the counts.
+pub struct Counts {
+    pub number: u32,
+    pub place: u64,
+    pub firsts: u64,
+    pub reprints: u64,
+}
+
+// Whether two receipts are the same.
+pub fn same(a: &[u8], b: &[u8]) -> Sameness
+    ensures { λ r. ⌜ r ≡ sameCall (now (a .entry)) (now (b .entry)) ⌝ }
+{
+    if a.len() != RECEIPT {
+        return Sameness {
+            number: 13,
+            same: false,
+        };
+    }
+    if b.len() != RECEIPT {
+        return Sameness {
+            number: 13,
+            same: false,
+        };
+    }
+    if !is_well_formed(a) {
+        return Sameness {
+            number: 14,
+            same: false,
+        };
+    }
+    if !is_well_formed(b) {
+        return Sameness {
+            number: 14,
+            same: false,
+        };
+    }
+    let yes = all_agree(a, b);
+    Sameness {
+        number: 0,
+        same: yes,
+    }
+}
+
+// Whether all bytes of two receipts agree. No byte ends the loop early, so that the compiler compares many at once.
+fn all_agree(a: &[u8], b: &[u8]) -> bool
+    requires { ⌜ (length (now a) ≡ receiptBytes) × (length (now b) ≡ receiptBytes) ⌝ }
+    ensures { λ r. ⌜ r ≡ equal (now (a .entry)) (now (b .entry)) ⌝ }
+{
+    let mut differ: u8 = 0;
+    for i in 0..RECEIPT {
+        if a[i] != b[i] {
+            differ += 1;
+        }
+    }
+    differ == 0
+}
+
+// Whether 68 bytes are a receipt that could have been written.
+fn is_well_formed(r: &[u8]) -> bool
+    requires { ⌜ length (now r) ≡ receiptBytes ⌝ }
+    ensures { λ b. ⌜ b ≡ wellFormed (now (r .entry)) ⌝ }
+{
+    let w = r[0] as u64;
+    if !runs::is_word_size(w) {
+        return false;
+    }
+    if r[1] != 0 {
+        return false;
+    }
+    let n = length_of(r);
+    if !runs::is_digest_length(w, n) {
+        return false;
+    }
+    if !is_unused_zero(r, n) {
+        return false;
+    }
+    let after = (4 + (n + 7) / 8) as usize;
+    is_zero_from(r, after)
+}
+
+// n of a receipt.
+fn length_of(r: &[u8]) -> u64
+    requires { ⌜ length (now r) ≡ receiptBytes ⌝ }
+    ensures { λ n. ⌜ n ≡ lengthOf (now (r .entry)) ⌝ }
+{
+    r[2] as u64 + 256 * r[3] as u64
+}
+
+// Whether the bits of the digest's last byte that it does not use are 0.
+fn is_unused_zero(r: &[u8], n: u64) -> bool
+    requires { ⌜ (length (now r) ≡ receiptBytes) × (n ≤ 512) ⌝ }
+    ensures { λ b. ⌜ b ≡ unusedZero (now (r .entry)) n ⌝ }
+{
+    if n % 8 == 0 {
+        return true;
+    }
+    let last = (4 + n / 8) as usize;
+    finalization::low_bits(r[last], (n % 8) as u32) == 0
+}
+
+// Whether each byte from a place on is 0.
+fn is_zero_from(r: &[u8], at: usize) -> bool
+    ensures { λ b. ⌜ b ≡ allZero (drop at (now (r .entry))) ⌝ }
+{
+    let mut i = at;
+    while i < r.len() {
+        if r[i] != 0 {
+            return false;
+        }
+        i += 1;
+    }
+    true
+}
+
+// Counts the receipts of a list.
+pub fn tally(list: &[u8]) -> Counts
+    ensures { λ r. ⌜ r ≡ tallyCall (now (list .entry)) ⌝ }
+{
+    let len = list.len();
+    if len % RECEIPT != 0 {
+        return refusal(13, 0);
+    }
+    if MOST_RECEIPTS * RECEIPT < len {
+        return refusal(13, 0);
+    }
+    let place = first_malformed(list);
+    if place < len / RECEIPT {
+        return refusal(14, place as u64);
+    }
+    count(list)
+}
+
+fn refusal(number: u32, place: u64) -> Counts
+    ensures { λ r. ⌜ r ≡ refused number place ⌝ }
+{
+    Counts {
+        number: number,
+        place: place,
+        firsts: 0,
+        reprints: 0,
+    }
+}
+
+// The receipt at place i of a list.
+fn receipt_at(list: &[u8], i: usize) -> &[u8]
+    requires { ⌜ i < receiptCount (now list) ⌝ }
+    ensures { λ r. ⌜ now r ≡ receiptAt (now (list .entry)) i ⌝ }
+{
+    let to = (i + 1) * RECEIPT;
+    let from = to - RECEIPT;
+    &list[from..to]
+}
+
+// The place of the first malformed receipt, or how many receipts there are if each is well formed.
+fn first_malformed(list: &[u8]) -> usize
+    ensures { λ i. ⌜ i ≡ firstMalformed (now (list .entry)) 0 (receiptCount (now (list .entry))) ⌝ }
+{
+    let end = list.len() / RECEIPT;
+    let mut i: usize = 0;
+    while i < end {
+        if !is_well_formed(receipt_at(list, i)) {
+            return i;
+        }
+        i += 1;
+    }
+    i
+}
+
+// The counts of a list of well-formed receipts.
+fn count(list: &[u8]) -> Counts
+    requires { ⌜ length (now list) ≤ mostReceipts * receiptBytes ⌝ }
+    ensures { λ r. ⌜ r ≡ counted (receipts (now (list .entry)) (receiptCount (now (list .entry)))) ⌝ }
+{
+    let end = list.len() / RECEIPT;
+    let sums = checksums(list);
+    let mut firsts: u64 = 0;
+    let mut reprints: u64 = 0;
+    let mut i: usize = 0;
+    while i < end {
+        if is_reprint(list, &sums, i) {
+            reprints += 1;
+        } else {
+            firsts += 1;
+        }
+        i += 1;
+    }
+    Counts {
+        number: 0,
+        place: 0,
+        firsts: firsts,
+        reprints: reprints,
+    }
+}
+
+// Whether the receipt at place i is the same as an earlier one. All bytes are compared only where the checksums agree.
+fn is_reprint(list: &[u8], sums: &[u64; MOST_RECEIPTS], i: usize) -> bool
+    requires { ⌜ (i < mostReceipts) × (i < receiptCount (now list)) × ((j : ℕ) → j ≤ i → at (now sums) j ≡ checksum (receiptAt (now list) j)) ⌝ }
+    ensures { λ b. ⌜ b ≡ isOneOf (receiptAt (now (list .entry)) i) (receipts (now (list .entry)) i) ⌝ }
+{
+    let sum = sums[i];
+    let mut j = i;
+    while 0 < j {
+        j -= 1;
+        if sums[j] == sum {
+            if all_agree(receipt_at(list, i), receipt_at(list, j)) {
+                return true;
+            }
+        }
+    }
+    false
+}
+
+// The checksum of each receipt.
+fn checksums(list: &[u8]) -> [u64; MOST_RECEIPTS]
+    requires { ⌜ length (now list) ≤ mostReceipts * receiptBytes ⌝ }
+    ensures { λ r. ⌜ ((j : ℕ) → j < receiptCount (now (list .entry)) → at r j ≡ checksum (receiptAt (now (list .entry)) j)) ⌝ }
+{
+    let mut sums = no_sums();
+    let end = list.len() / RECEIPT;
+    for i in 0..end {
+        sums[i] = sum_of(receipt_at(list, i));
+    }
+    sums
+}
+
+fn no_sums() -> [u64; MOST_RECEIPTS] {
+    [0u64; MOST_RECEIPTS]
+}
+
+// The checksum of a receipt. It stays below 2^55, so that 257 times it and a byte more fit in 64 bits.
+fn sum_of(r: &[u8]) -> u64
+    ensures { λ c. ⌜ c ≡ checksum (now (r .entry)) ⌝ }
+{
+    let mut c: u64 = 0;
+    let mut i: usize = 0;
+    while i < r.len() {
+        c = (257 * c + r[i] as u64) % 36028797018963968;
+        i += 1;
+    }
+    c
+}
