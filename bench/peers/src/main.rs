@@ -1,10 +1,11 @@
-//! Times block runs, Append, Rewind and whole messages by the module, lsh_ref and Crypto++. `bench/run` builds and starts it.
+//! Times block runs, Append, Rewind, whole messages and Tally by the module, lsh_ref and Crypto++. `bench/run` builds and starts it.
 
 mod bars;
 mod blocks;
 mod messages;
 mod peers;
 mod table;
+mod till;
 mod timing;
 
 use compare::Random;
@@ -48,5 +49,6 @@ fn print_report(rates: &Rates) {
     table::print("Whole blocks over 1 MiB", &blocks::COLUMNS, rates);
     table::print("Append of 1 MiB to a new record, Rewind of 1 MiB", &blocks::RECORD_COLUMNS, rates);
     table::print("Whole messages, LSH-256-256 and LSH-512-512", &messages::COLUMNS, rates);
+    till::print();
     bars::print(rates);
 }

@@ -35,6 +35,7 @@ mod module {
         pub fn bench_backward512(chain: *mut u8, chain_len: usize, blocks: *const u8, blocks_len: usize) -> u32;
         pub fn bench_append(w: u64, n: u64, piece: *const u8, piece_len: usize) -> u64;
         pub fn bench_rewind(w: u64, total: u64, h: *const u8, h_len: usize) -> u64;
+        pub fn bench_tally(list: *const u8, list_len: usize) -> u64;
     }
 }
 
@@ -94,6 +95,12 @@ pub fn module_rewind<W: Word>(input: &[u8]) -> u64 {
     let total = (W::BLOCK_BYTES + input.len()) as u64;
     // SAFETY: the pointer comes with the length of its slice.
     unsafe { module::bench_rewind(W::BITS as u64, total, input.as_ptr(), input.len()) }
+}
+
+/// How many of the receipts are firsts.
+pub fn module_tally(receipts: &[u8]) -> u64 {
+    // SAFETY: the pointer comes with the length of its slice.
+    unsafe { module::bench_tally(receipts.as_ptr(), receipts.len()) }
 }
 
 /// Writes the digest of a whole message where a receipt has it. A buffer is lent because the module and Crypto++ need
