@@ -1,0 +1,4 @@
+pub mod Lines
+pub mod Reading
+pub mod Chains
+pub mod Printing

@@ -1,0 +1,129 @@
+-- What a word says: a number read from its front, and bytes.
+-- Assumes nothing.
+use mathlib.Core.Path.{_≡_, refl, sym, _∙_}
+use mathlib.Core.Bool.{Bool, true, false, not, _&&_, cond}
+use mathlib.Core.List.{List, [], _∷_}
+use Prim.Native.Nat.{ℕ, zero, suc, _+_, _-_, _*_, _/_, _%_, _^_, _≤_, _<_}
+use native.Mathlib.Nat.{le-refl, le-trans, not-suc-le-zero, le-of-suc-le-suc}
+use native.Mathlib.Numerals.{add-one}
+use native.Mathlib.Omega.{arith}
+use lib.Dec.{eqb, ltb, leb}
+use lib.ListN.{length, drop, getD, drop-of-length-le}
+use lib.Seq.{drop-cons, sets}
+use borrow.Author.Tests.{eq-eqb, ne-eqb, lt-ltb, le-ltb, leb-true, le-leb, lt-leb}
+use Rattle.lsh.specs.Tabulate.{at, tabulate}
+use Rattle.lsh.proofs.Tabulate.{length-tabulate}
+use Rattle.lsh.proofs.Tests.{and-true}
+use Rattle.script.specs.declared.Number.{Number}
+use Rattle.script.specs.Numbers.{isDigit, allDigits, valueAfter, isNumber, noNumber, numberOf}
+use Rattle.script.specs.Hex.{isHexDigit, allHex, byteOf, isDash, isHexBytes, isBytes, bytesOf, noLength, lengthOf, written}
+
+-- a decimal digit lies between 0 and 9
+pub digit-low : (c : ℕ) → isDigit c ≡ true → 48 ≤ c
+digit-low c e = leb-true 48 c (and-true (leb 48 c) (leb c 57) e .0)
+
+pub digit-high : (c : ℕ) → isDigit c ≡ true → c ≤ 57
+digit-high c e = leb-true c 57 (and-true (leb 48 c) (leb c 57) e .1)
+
+-- what the digits of x and then s say
+abbrev pub numberAfter : ℕ → List ℕ → Number
+numberAfter x s = cond (allDigits s && ltb (valueAfter x s) (2 ^ 64)) (record { is = true; value = valueAfter x s }) noNumber
+
+pub number-empty : (s : List ℕ) → length s ≡ 0 → noNumber ≡ numberOf s
+unfolding numberOf isNumber
+number-empty s e = rw (eq-eqb (length s) 0 e)
+
+pub number-some : (s : List ℕ) → (length s ≡ 0 → ⊥) → numberOf s ≡ numberAfter 0 s
+unfolding numberOf isNumber
+number-some s ne = rw (ne-eqb (length s) 0 ne)
+
+value-grows : (x : ℕ) (s : List ℕ) → x ≤ valueAfter x s
+value-grows x [] = le-refl x
+value-grows x (c ∷ s) = le-trans (omega arith) (value-grows (10 * x + (c - 48)) s)
+
+and-false : (p : Bool) → (p && false) ≡ false
+and-false true = refl
+and-false false = refl
+
+too-large : (x : ℕ) (s : List ℕ) → 2 ^ 64 ≤ x → numberAfter x s ≡ noNumber
+too-large x s h = rw (le-ltb (valueAfter x s) (2 ^ 64) (le-trans h (value-grows x s)), and-false (allDigits s))
+
+module _ (s : List ℕ) (i x : ℕ) (passed : numberOf s ≡ numberAfter x (drop i s)) where
+  pub number-other : i < length s → isDigit (getD s i 0) ≡ false → noNumber ≡ numberOf s
+  number-other lt e = sym (passed ∙ rw (drop-cons s i 0 lt, e))
+
+  pub number-more : i < length s → isDigit (getD s i 0) ≡ true → numberOf s ≡ numberAfter (10 * x + (getD s i 0 - 48)) (drop (i + 1) s)
+  number-more lt e = passed ∙ rw (add-one i, drop-cons s i 0 lt, e)
+
+  pub number-large : i < length s → isDigit (getD s i 0) ≡ true → 2 ^ 64 ≤ 10 * x + (getD s i 0 - 48) → noNumber ≡ numberOf s
+  number-large lt e h = sym (number-more lt e ∙ too-large (10 * x + (getD s i 0 - 48)) (drop (i + 1) s) h)
+
+  pub number-all : length s ≤ i → x < 2 ^ 64 → record { is = true; value = x } ≡ numberOf s
+  number-all le h = sym (passed ∙ rw (drop-of-length-le s {i = i} le, lt-ltb x (2 ^ 64) h))
+
+-- hexadecimal digits
+
+pub hex-at : (s : List ℕ) → allHex s ≡ true → (i : ℕ) → i < length s → isHexDigit (at s i) ≡ true
+hex-at [] e i h = absurd (not-suc-le-zero h)
+hex-at (c ∷ s) e zero h = and-true (isHexDigit c) (allHex s) e .0
+hex-at (c ∷ s) e (suc i) h = hex-at s (and-true (isHexDigit c) (allHex s) e .1) i (le-of-suc-le-suc h)
+
+module _ (s : List ℕ) (i : ℕ) (passed : allHex s ≡ allHex (drop i s)) where
+  pub hex-other : i < length s → isHexDigit (getD s i 0) ≡ false → false ≡ allHex s
+  hex-other lt e = sym (passed ∙ rw (drop-cons s i 0 lt, e))
+
+  pub hex-more : i < length s → isHexDigit (getD s i 0) ≡ true → allHex s ≡ allHex (drop (i + 1) s)
+  hex-more lt e = passed ∙ rw (add-one i, drop-cons s i 0 lt, e)
+
+  pub hex-all : length s ≤ i → true ≡ allHex s
+  hex-all le = sym (passed ∙ rw (drop-of-length-le s {i = i} le))
+
+module _ (c : ℕ) (is : isHexDigit c ≡ true) where
+  pub hex-decimal : c < 97 → isDigit c ≡ true
+  unfolding isHexDigit
+  hex-decimal h = rw (lt-ltb c 97 h) at is
+
+  pub hex-letter : 97 ≤ c → c ≤ 102
+  unfolding isHexDigit
+  hex-letter h = leb-true c 102 (rw (le-ltb c 97 h) at is)
+
+-- BYTES
+
+pub all-hex-of : (s : List ℕ) → isHexBytes s ≡ true → allHex s ≡ true
+unfolding isHexBytes
+all-hex-of s e = and-true (not (eqb (length s) 0) && eqb (length s % 2) 0) (allHex s) e .1
+
+module _ (s output : List ℕ) where
+  pub dash-length : isDash s ≡ true → record { is = true; count = 0 } ≡ lengthOf s (length output)
+  unfolding lengthOf isBytes bytesOf
+  dash-length d = rw d
+
+  pub dash-written : isDash s ≡ true → output ≡ written s output
+  unfolding written isBytes bytesOf
+  dash-written d = rw d
+
+  module _ (d : isDash s ≡ false) where
+    pub other-length : isHexBytes s ≡ false → noLength ≡ lengthOf s (length output)
+    unfolding lengthOf isBytes
+    other-length h = rw (d, h)
+
+    pub other-written : isHexBytes s ≡ false → output ≡ written s output
+    unfolding written isBytes
+    other-written h = rw (d, h)
+
+    pub short-length : length output < length s / 2 → noLength ≡ lengthOf s (length output)
+    unfolding lengthOf isBytes
+    short-length lt = rw (d, lt-leb (length s / 2) (length output) lt, and-false (isHexBytes s))
+
+    pub short-written : length output < length s / 2 → output ≡ written s output
+    unfolding written isBytes
+    short-written lt = rw (d, lt-leb (length s / 2) (length output) lt, and-false (isHexBytes s))
+
+    module _ (h : isHexBytes s ≡ true) (le : length s / 2 ≤ length output) where
+      pub some-length : record { is = true; count = length s / 2 } ≡ lengthOf s (length output)
+      unfolding lengthOf isBytes bytesOf
+      some-length = rw (d, h, le-leb (length s / 2) (length output) le, length-tabulate (length s / 2) (byteOf s))
+
+      pub some-written : sets output 0 (tabulate (length s / 2) (byteOf s)) ≡ written s output
+      unfolding written isBytes bytesOf
+      some-written = rw (d, h, le-leb (length s / 2) (length output) le)

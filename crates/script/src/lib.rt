@@ -1,0 +1,339 @@
+// The words of a replay script: a line taken apart into words, what a word says, and bytes and text as they are printed.
+ghost use mathlib.Core.Path.{_≡_};
+ghost use mathlib.Core.Bool.{true};
+ghost use Prim.Native.Nat.{_+_, _-_, _*_, _/_, _<_, _≤_};
+ghost use lib.ListN.{length, take, drop, replicate};
+ghost use lib.Seq.{sets};
+ghost use Rattle.lsh.specs.Tabulate.{tabulate};
+ghost use Rattle.script.specs.Words.{before, spaces, afterSpaces, wordAt};
+ghost use Rattle.script.specs.Numbers.{isDigit, noNumber, numberOf, highestFirst};
+ghost use Rattle.script.specs.Hex.{isHexDigit, allHex, hexValue, byteOf, isDash, isHexBytes, noLength, lengthOf, written, hexDigit, digitAt, digitsOf, printed};
+
+// The number that a word says, if it is one.
+pub struct Number {
+    pub is: bool,
+    pub value: u64,
+}
+
+// How many bytes a word says, if it is BYTES.
+pub struct Length {
+    pub is: bool,
+    pub count: usize,
+}
+
+// How many bytes stand before the first that is the mark.
+pub fn until(s: &[u8], mark: u8) -> usize
+    ensures { λ r. ⌜ (r ≡ length (before mark (now (s .entry)))) × (r ≤ length (now (s .entry))) ⌝ }
+{
+    let mut i: usize = 0;
+    while i < s.len() {
+        if s[i] == mark {
+            return i;
+        }
+        i += 1;
+    }
+    i
+}
+
+// How many spaces a line has.
+pub fn count_spaces(line: &[u8]) -> usize
+    ensures { λ r. ⌜ r ≡ spaces (now (line .entry)) ⌝ }
+{
+    let mut count: usize = 0;
+    let mut i: usize = 0;
+    while i < line.len() {
+        if line[i] == b' ' {
+            count += 1;
+        }
+        i += 1;
+    }
+    count
+}
+
+// Word i of a line, counted from 0; an empty one where the line has fewer.
+pub fn word(line: &[u8], i: usize) -> &[u8]
+    ensures { λ r. ⌜ now r ≡ wordAt i (now (line .entry)) ⌝ }
+{
+    let from = after_spaces(line, i);
+    let rest = &line[from..];
+    let n = until(rest, b' ');
+    &rest[..n]
+}
+
+// The place after the first k spaces of a line: its end if it has fewer.
+fn after_spaces(line: &[u8], k: usize) -> usize
+    ensures { λ r. ⌜ (drop r (now (line .entry)) ≡ afterSpaces k (now (line .entry))) × (r ≤ length (now (line .entry))) ⌝ }
+{
+    let mut left = k;
+    let mut i: usize = 0;
+    while i < line.len() {
+        if left == 0 {
+            return i;
+        }
+        if line[i] == b' ' {
+            left -= 1;
+        }
+        i += 1;
+    }
+    i
+}
+
+// Word i of a line as a number.
+pub fn number_at(line: &[u8], i: usize) -> Number
+    ensures { λ r. ⌜ r ≡ numberOf (wordAt i (now (line .entry))) ⌝ }
+{
+    read_number(word(line, i))
+}
+
+pub fn read_number(word: &[u8]) -> Number
+    ensures { λ r. ⌜ r ≡ numberOf (now (word .entry)) ⌝ }
+{
+    if word.len() == 0 {
+        return no_number();
+    }
+    let mut x: u64 = 0;
+    let mut i: usize = 0;
+    while i < word.len() {
+        let c = word[i];
+        if !is_digit(c) {
+            return no_number();
+        }
+        let d = digit_value(c);
+        // 10 x + d is below 2^64 exactly if x is at most this.
+        if (u64::MAX - d) / 10 < x {
+            return no_number();
+        }
+        x = 10 * x + d;
+        i += 1;
+    }
+    Number { is: true, value: x }
+}
+
+fn no_number() -> Number
+    ensures { λ r. ⌜ r ≡ noNumber ⌝ }
+{
+    Number {
+        is: false,
+        value: 0,
+    }
+}
+
+fn is_digit(c: u8) -> bool
+    ensures { λ r. ⌜ r ≡ isDigit c ⌝ }
+{
+    if c < b'0' {
+        return false;
+    }
+    c <= b'9'
+}
+
+fn digit_value(c: u8) -> u64
+    requires { ⌜ isDigit c ≡ true ⌝ }
+    ensures { λ r. ⌜ (r ≡ c - 48) × (r < 10) ⌝ }
+{
+    (c - b'0') as u64
+}
+
+// Word i of a line as BYTES. The bytes are written at the output's front, if they have room there. The second clause is what lending
+// them as &output[..count] asks.
+pub fn bytes_at(line: &[u8], i: usize, output: &mut [u8]) -> Length
+    ensures { λ r. ⌜ (r ≡ lengthOf (wordAt i (now (line .entry))) (length (now (output .entry)))) × (now (output .exit) ≡ written (wordAt i (now (line .entry))) (now (output .entry))) ⌝ }
+    ensures { λ r. ⌜ (r .count ≤ length (now (output .exit))) × (r .count ≡ length (take (r .count) (now (output .exit)))) ⌝ }
+{
+    read_bytes(word(line, i), output)
+}
+
+fn read_bytes(word: &[u8], output: &mut [u8]) -> Length
+    ensures { λ r. ⌜ (r ≡ lengthOf (now (word .entry)) (length (now (output .entry)))) × (r .count ≤ length (now (output .entry))) × (now (output .exit) ≡ written (now (word .entry)) (now (output .entry))) ⌝ }
+{
+    if is_dash(word) {
+        return Length { is: true, count: 0 };
+    }
+    if !is_hex_bytes(word) {
+        return no_length();
+    }
+    let n = word.len() / 2;
+    if output.len() < n {
+        return no_length();
+    }
+    decode(word, output);
+    Length { is: true, count: n }
+}
+
+fn no_length() -> Length
+    ensures { λ r. ⌜ r ≡ noLength ⌝ }
+{
+    Length {
+        is: false,
+        count: 0,
+    }
+}
+
+fn is_dash(word: &[u8]) -> bool
+    ensures { λ r. ⌜ r ≡ isDash (now (word .entry)) ⌝ }
+{
+    if word.len() != 1 {
+        return false;
+    }
+    word[0] == b'-'
+}
+
+fn is_hex_bytes(word: &[u8]) -> bool
+    ensures { λ r. ⌜ r ≡ isHexBytes (now (word .entry)) ⌝ }
+{
+    if word.len() == 0 {
+        return false;
+    }
+    if word.len() % 2 != 0 {
+        return false;
+    }
+    all_hex(word)
+}
+
+fn all_hex(s: &[u8]) -> bool
+    ensures { λ r. ⌜ r ≡ allHex (now (s .entry)) ⌝ }
+{
+    let mut i: usize = 0;
+    while i < s.len() {
+        if !is_hex_digit(s[i]) {
+            return false;
+        }
+        i += 1;
+    }
+    true
+}
+
+fn is_hex_digit(c: u8) -> bool
+    ensures { λ r. ⌜ r ≡ isHexDigit c ⌝ }
+{
+    if c < b'a' {
+        return is_digit(c);
+    }
+    c <= b'f'
+}
+
+fn hex_value(c: u8) -> u8
+    requires { ⌜ isHexDigit c ≡ true ⌝ }
+    ensures { λ r. ⌜ (r ≡ hexValue c) × (r < 16) ⌝ }
+{
+    if c < b'a' {
+        return c - b'0';
+    }
+    c - b'a' + 10
+}
+
+fn decode(word: &[u8], output: &mut [u8])
+    requires { ⌜ (allHex (now word) ≡ true) × (length (now word) / 2 ≤ length (now output)) ⌝ }
+    ensures { λ _. ⌜ now (output .exit) ≡ sets (now (output .entry)) 0 (tabulate (length (now (word .entry)) / 2) (byteOf (now (word .entry)))) ⌝ }
+{
+    let n = word.len() / 2;
+    for i in 0..n {
+        output[i] = decode_byte(word, i);
+    }
+}
+
+fn decode_byte(word: &[u8], i: usize) -> u8
+    requires { ⌜ (allHex (now word) ≡ true) × (i < length (now word) / 2) ⌝ }
+    ensures { λ r. ⌜ r ≡ byteOf (now (word .entry)) i ⌝ }
+{
+    let high = 2 * i;
+    let low = high + 1;
+    16 * hex_value(word[high]) + hex_value(word[low])
+}
+
+// The words of a chain, each of eight bytes, the highest first.
+pub fn chain_of(bytes: &[u8; 128]) -> [u64; 16]
+    ensures { λ r. ⌜ r ≡ tabulate 16 (λ l. highestFirst 8 (now (bytes .entry)) (8 * l)) ⌝ }
+{
+    let mut chain = [0u64; 16];
+    for l in 0..16usize {
+        chain[l] = chain_word(bytes, 8 * l);
+    }
+    chain
+}
+
+fn chain_word(s: &[u8], a: usize) -> u64
+    requires { ⌜ a + 8 ≤ length (now s) ⌝ }
+    ensures { λ r. ⌜ r ≡ highestFirst 8 (now (s .entry)) a ⌝ }
+{
+    let mut x: u64 = 0;
+    for i in 0..8usize {
+        let place = a + i;
+        x = 256 * x + wide(s[place]);
+    }
+    x
+}
+
+fn wide(x: u8) -> u64
+    ensures { λ r. ⌜ (r ≡ x) × (r < 256) ⌝ }
+{
+    x as u64
+}
+
+// Writes one byte into every place of the output.
+pub fn fill(output: &mut [u8], x: u8)
+    ensures { λ _. ⌜ now (output .exit) ≡ replicate (length (now (output .entry))) x ⌝ }
+{
+    let n = output.len();
+    for i in 0..n {
+        output[i] = x;
+    }
+}
+
+// Writes text into the output from a place on, and returns the place after it.
+pub fn put(output: &mut [u8], from: usize, text: &[u8]) -> usize
+    requires { ⌜ from + length (now text) ≤ length (now output) ⌝ }
+    ensures { λ r. ⌜ (r ≡ from + length (now (text .entry))) × (now (output .exit) ≡ sets (now (output .entry)) from (now (text .entry))) ⌝ }
+{
+    let n = text.len();
+    for i in 0..n {
+        let place = from + i;
+        output[place] = text[i];
+    }
+    from + n
+}
+
+// Writes bytes as they are printed, likewise.
+pub fn put_bytes(output: &mut [u8], from: usize, bytes: &[u8]) -> usize
+    requires { ⌜ from + 2 * length (now bytes) + 1 ≤ length (now output) ⌝ }
+    ensures { λ r. ⌜ (r ≡ from + length (printed (now (bytes .entry)))) × (r ≤ from + 2 * length (now (bytes .entry)) + 1) × (now (output .exit) ≡ sets (now (output .entry)) from (printed (now (bytes .entry)))) ⌝ }
+{
+    if bytes.len() == 0 {
+        return put(output, from, b"-");
+    }
+    put_digits(output, from, bytes)
+}
+
+fn put_digits(output: &mut [u8], from: usize, bytes: &[u8]) -> usize
+    requires { ⌜ from + 2 * length (now bytes) ≤ length (now output) ⌝ }
+    ensures { λ r. ⌜ (r ≡ from + 2 * length (now (bytes .entry))) × (now (output .exit) ≡ sets (now (output .entry)) from (digitsOf (now (bytes .entry)))) ⌝ }
+{
+    let n = 2 * bytes.len();
+    for k in 0..n {
+        let place = from + k;
+        output[place] = digit_at(bytes, k);
+    }
+    from + n
+}
+
+// Digit k of the bytes.
+fn digit_at(bytes: &[u8], k: usize) -> u8
+    requires { ⌜ k < 2 * length (now bytes) ⌝ }
+    ensures { λ r. ⌜ r ≡ digitAt (now (bytes .entry)) k ⌝ }
+{
+    let i = k / 2;
+    if k % 2 == 0 {
+        return hex_digit(bytes[i] / 16);
+    }
+    hex_digit(bytes[i] % 16)
+}
+
+fn hex_digit(d: u8) -> u8
+    requires { ⌜ d < 16 ⌝ }
+    ensures { λ r. ⌜ r ≡ hexDigit d ⌝ }
+{
+    if d < 10 {
+        return b'0' + d;
+    }
+    87 + d
+}
