@@ -1,7 +1,10 @@
 //! Whole blocks: the bare runs over them, and Append and Rewind, which add the keeping of a record to a run.
 
 use crate::messages::hash_timing;
-use crate::peers::{block_peers, cryptopp, digest_bits, module_append, module_rewind, reference_backward, reference_forward, BlockPeer, Run};
+use crate::peers::{
+    block_peers, cryptopp, digest_bits, module_append, module_rewind, reference_backward, reference_forward, BlockPeer,
+    Run,
+};
 use crate::peers::{CRYPTOPP, MODULE, REFERENCE};
 use crate::table::Column::{self, OfPeer, OfWork, Rate};
 use crate::timing::{Task, Timing};

@@ -23,7 +23,7 @@ const OUTPUT: u64 = 4096;
 const LENT: u8 = 0xa5;
 
 // What is kept while lines are read.
-struct Session {
+struct State {
     record: Record,
     // How many lines have ended.
     lines: u64,
@@ -35,7 +35,7 @@ struct Session {
 
 // What is kept after a piece of what was read, and the place after it.
 struct Passed {
-    session: Session,
+    state: State,
     at: usize,
 }
 
@@ -98,9 +98,9 @@ fn replay(chunk: &mut [u8], line: &mut [u8], out: &mut [u8], left: &mut [u8], ri
     }
 }
 
-fn start() -> Session {
+fn start() -> State {
     let r = zeros();
-    Session {
+    State {
         record: r,
         lines: 0,
         begun: 0,
@@ -120,13 +120,13 @@ fn zeros() -> Record {
 
 // Reads once, and answers the lines that end in what came.
 fn read_on(
-    s: Session,
+    s: State,
     chunk: &mut [u8],
     line: &mut [u8],
     out: &mut [u8],
     left: &mut [u8],
     right: &mut [u8],
-) -> Session
+) -> State
     requires { ⌜ (262208 ≤ length (now out)) × (length (now left) ≤ 131072) ⌝ }
 {
     let got = libc::read(STDIN_FILENO, chunk);
@@ -141,9 +141,9 @@ fn read_on(
     take_in(s, &chunk[..n], line, out, left, right)
 }
 
-fn ended(s: Session) -> Session {
+fn ended(s: State) -> State {
     let r = s.record;
-    Session {
+    State {
         record: r,
         lines: s.lines,
         begun: s.begun,
@@ -152,7 +152,7 @@ fn ended(s: Session) -> Session {
 }
 
 // The line that the input ends in, if it lacks the newline.
-fn last_line(s: Session, line: &[u8], out: &mut [u8], left: &mut [u8], right: &mut [u8]) -> Session
+fn last_line(s: State, line: &[u8], out: &mut [u8], left: &mut [u8], right: &mut [u8]) -> State
     requires { ⌜ (262208 ≤ length (now out)) × (length (now left) ≤ 131072) ⌝ }
 {
     if s.begun == 0 {
@@ -163,20 +163,20 @@ fn last_line(s: Session, line: &[u8], out: &mut [u8], left: &mut [u8], right: &m
 
 // Takes in what was read: each newline ends a line.
 fn take_in(
-    s: Session,
+    s: State,
     chunk: &[u8],
     line: &mut [u8],
     out: &mut [u8],
     left: &mut [u8],
     right: &mut [u8],
-) -> Session
+) -> State
     requires { ⌜ (262208 ≤ length (now out)) × (length (now left) ≤ 131072) ⌝ }
 {
     let mut t = s;
     let mut at: usize = 0;
     while at < chunk.len() && t.on {
         let p = take_piece(t, chunk, at, line, out, left, right);
-        let u = p.session;
+        let u = p.state;
         t = u;
         at = p.at;
     }
@@ -185,7 +185,7 @@ fn take_in(
 
 // Takes in what was read from a place on, up to the first newline or to the end.
 fn take_piece(
-    s: Session,
+    s: State,
     chunk: &[u8],
     at: usize,
     line: &mut [u8],
@@ -202,23 +202,23 @@ fn take_piece(
     let t = join(s, &chunk[at..end], line);
     if end == chunk.len() {
         return Passed {
-            session: t,
+            state: t,
             at: after,
         };
     }
     let u = end_line(t, line, out, left, right);
     Passed {
-        session: u,
+        state: u,
         at: after,
     }
 }
 
 // Joins a piece to the line begun.
-fn join(s: Session, piece: &[u8], line: &mut [u8]) -> Session {
+fn join(s: State, piece: &[u8], line: &mut [u8]) -> State {
     let r = s.record;
     let begun = s.begun;
     let n = joined(begun, piece, line);
-    Session {
+    State {
         record: r,
         lines: s.lines,
         begun: n,
@@ -239,7 +239,7 @@ fn joined(begun: usize, piece: &[u8], line: &mut [u8]) -> usize {
 }
 
 // Answers the line begun, and begins the next.
-fn end_line(s: Session, line: &[u8], out: &mut [u8], left: &mut [u8], right: &mut [u8]) -> Session
+fn end_line(s: State, line: &[u8], out: &mut [u8], left: &mut [u8], right: &mut [u8]) -> State
     requires { ⌜ (262208 ≤ length (now out)) × (length (now left) ≤ 131072) ⌝ }
 {
     let r = s.record;
@@ -260,8 +260,8 @@ fn end_line(s: Session, line: &[u8], out: &mut [u8], left: &mut [u8], right: &mu
     next_line(next, k, print(out, length))
 }
 
-fn next_line(r: Record, k: u64, on: bool) -> Session {
-    Session {
+fn next_line(r: Record, k: u64, on: bool) -> State {
+    State {
         record: r,
         lines: k,
         begun: 0,

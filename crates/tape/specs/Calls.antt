@@ -22,9 +22,11 @@ pub data Call : Type 0 where
   Append : ByteString → Call
   Rewind : ℕ → ByteString → Call
 
+-- what an outcome gives
 unfoldable pub given : Outcome → Given Record
 given o = record { answer = record { number = o .number; count = o .count }; next = o .next }
 
+-- a call on the record, and on the tape of word size w
 abbrev pub recordCall : Record → Call → Given Record
 recordCall r (Append piece) = given (appendCall r (piece .list))
 recordCall r (Rewind keep h) = given (rewindCall r keep (h .list))

@@ -34,7 +34,7 @@ impl Tape {
     }
 
     fn rewind(&mut self, keep: u64, size: usize) -> Answer {
-        if size > self.bytes.len() || (self.bytes.len() - size) % self.block != 0 {
+        if size > self.bytes.len() || !(self.bytes.len() - size).is_multiple_of(self.block) {
             return Answer { number: 6, count: 0 };
         }
         if keep > size as u64 || keep >= self.block as u64 {

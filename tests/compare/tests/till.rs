@@ -41,14 +41,8 @@ enum Damage {
     TrailingByte,
 }
 
-const DAMAGES: [Damage; 6] = [
-    Damage::WordSize,
-    Damage::ByteOne,
-    Damage::NoDigest,
-    Damage::LongDigest,
-    Damage::UnusedBit,
-    Damage::TrailingByte,
-];
+const DAMAGES: [Damage; 6] =
+    [Damage::WordSize, Damage::ByteOne, Damage::NoDigest, Damage::LongDigest, Damage::UnusedBit, Damage::TrailingByte];
 
 fn damaged(damage: Damage, random: &mut Random) -> Receipt {
     // A digest with unused bits and room after it.
@@ -114,8 +108,7 @@ fn random_list(count: usize, random: &mut Random) -> Vec<Receipt> {
     let mut receipts: Vec<Receipt> = Vec::new();
     for place in 0..count {
         let again = place > 0 && random.below(3) == 0;
-        let next =
-            if again { receipts[random.below(place as u64) as usize] } else { random_receipt(random) };
+        let next = if again { receipts[random.below(place as u64) as usize] } else { random_receipt(random) };
         receipts.push(next);
     }
     receipts
@@ -208,7 +201,7 @@ fn lengths_of_no_receipt() {
             script.same(&long[..length], &good, "same 13");
             script.same(&damaged(Damage::ByteOne, &mut random), &long[..length], "same 13");
         }
-        if length % RECEIPT_BYTES != 0 {
+        if !length.is_multiple_of(RECEIPT_BYTES) {
             script.call(format!("tally {}", hex(&long[..length])), "tally 13 0 0");
         }
     }
