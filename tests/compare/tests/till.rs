@@ -18,7 +18,7 @@ fn receipt(w: u8, n: u16, random: &mut Random) -> Receipt {
     receipt[2..FRONT].copy_from_slice(&n.to_le_bytes());
     let end = FRONT + usize::from(n.div_ceil(8));
     receipt[FRONT..end].copy_from_slice(&random.bytes(end - FRONT));
-    if n % 8 != 0 {
+    if !n.is_multiple_of(8) {
         receipt[end - 1] &= 0xff << (8 - n % 8);
     }
     receipt
