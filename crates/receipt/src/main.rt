@@ -2,13 +2,14 @@
 ghost use mathlib.Core.Path.{_≡_};
 ghost use Prim.Native.Nat.{_+_, _*_, _<_, _≤_};
 ghost use lib.ListN.{length};
+use finalization::RECEIPT;
 use libc::STDERR_FILENO;
 use libc::STDIN_FILENO;
 use libc::STDOUT_FILENO;
 use record::Record;
 
 // The bytes of the most receipts that a tally takes.
-const LIST: usize = till::MOST_RECEIPTS * finalization::RECEIPT;
+const LIST: usize = till::MOST_RECEIPTS * RECEIPT;
 
 // What the options ask for, and the first argument after them.
 struct Asked {
@@ -301,7 +302,7 @@ fn file(
     if !t.good {
         return false;
     }
-    let mut receipt = [0u8; 68];
+    let mut receipt = [0u8; RECEIPT];
     close::close(t.record, 0, 0, &mut receipt);
     keep(list, count, receipt);
     print_receipt(digest, opened.n, receipt, &text[..n], line)
@@ -368,19 +369,19 @@ fn fail(name: &[u8]) {
 }
 
 // Puts a receipt into its place of the list, if there is one.
-fn keep(list: &mut [u8], count: usize, receipt: [u8; 68])
+fn keep(list: &mut [u8], count: usize, receipt: [u8; RECEIPT])
     requires { ⌜ 65280 ≡ length (now list) ⌝ }
 {
     if till::MOST_RECEIPTS <= count {
         return;
     }
     let r = receipt;
-    script::put(list, 68 * count, &r);
+    script::put(list, RECEIPT * count, &r);
 }
 
 // Prints a line: the receipt, or its digest of n bits alone, and the name. As sha256sum does, a line whose name has a backslash or a newline
 // begins with a backslash, and these are written with one.
-fn print_receipt(digest: bool, n: u64, receipt: [u8; 68], name: &[u8], line: &mut [u8]) -> bool
+fn print_receipt(digest: bool, n: u64, receipt: [u8; RECEIPT], name: &[u8], line: &mut [u8]) -> bool
     requires { ⌜ (65536 ≡ length (now line)) × (length (now name) ≤ 4096) ⌝ }
 {
     let a = put_mark(line, name);
@@ -411,7 +412,7 @@ fn put_mark(line: &mut [u8], name: &[u8]) -> usize
 }
 
 // The digits of the receipt, or of its digest alone.
-fn put_shown(digest: bool, n: u64, receipt: [u8; 68], line: &mut [u8], at: usize) -> usize
+fn put_shown(digest: bool, n: u64, receipt: [u8; RECEIPT], line: &mut [u8], at: usize) -> usize
     requires { ⌜ (65536 ≡ length (now line)) × (at ≤ 1) ⌝ }
     ensures { λ r. ⌜ r ≤ 138 ⌝ }
 {
@@ -469,7 +470,7 @@ fn tally(list: &[u8], count: usize)
         say(b"--tally takes 960 files at most");
         return;
     }
-    let end = 68 * count;
+    let end = RECEIPT * count;
     let t = till::tally(&list[..end]);
     io::write_all(STDOUT_FILENO, b"firsts ");
     io::print_decimal(STDOUT_FILENO, t.firsts);
