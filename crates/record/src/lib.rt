@@ -106,7 +106,7 @@ pub fn is_sound(r: Record) -> bool
         return false;
     }
     let at = (total % (4 * w)) as usize;
-    zero_from(at, held)
+    zero_from(&held, at)
 }
 
 // Whether each word of the chain has w bits.
@@ -128,14 +128,13 @@ fn words_below(w: u64, chain: [u64; 16]) -> bool
     true
 }
 
-// Whether each held byte from a place on is 0.
-fn zero_from(at: usize, held: [u8; 256]) -> bool
-    ensures { λ b. ⌜ b ≡ allZero (drop at held) ⌝ }
+// Whether each byte from a place on is 0.
+pub fn zero_from(s: &[u8], at: usize) -> bool
+    ensures { λ b. ⌜ b ≡ allZero (drop at (now (s .entry))) ⌝ }
 {
-    let h = held;
     let mut i = at;
-    while i < 256 {
-        if h[i] != 0 {
+    while i < s.len() {
+        if s[i] != 0 {
             return false;
         }
         i += 1;

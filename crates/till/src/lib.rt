@@ -1,10 +1,9 @@
 // Same and Tally: receipts compared, and a list of them counted.
 ghost use mathlib.Core.Path.{_≡_};
 ghost use Prim.Native.Nat.{ℕ, _*_, _<_, _≤_};
-ghost use lib.ListN.{length, drop};
+ghost use lib.ListN.{length};
 ghost use Rattle.lsh.specs.Tabulate.{at};
 ghost use Rattle.finalization.specs.Receipt.{receiptBytes};
-ghost use Rattle.record.specs.Record.{allZero};
 ghost use Rattle.equal.specs.Equal.{equal};
 ghost use Rattle.till.specs.WellFormed.{lengthOf, unusedZero, wellFormed};
 ghost use Rattle.till.specs.Same.{sameCall};
@@ -98,7 +97,7 @@ fn is_well_formed(r: &[u8]) -> bool
         return false;
     }
     let after = (4 + (n + 7) / 8) as usize;
-    is_zero_from(r, after)
+    record::zero_from(r, after)
 }
 
 // n of a receipt.
@@ -119,20 +118,6 @@ fn is_unused_zero(r: &[u8], n: u64) -> bool
     }
     let last = (4 + n / 8) as usize;
     finalization::low_bits(r[last], (n % 8) as u32) == 0
-}
-
-// Whether each byte from a place on is 0.
-fn is_zero_from(r: &[u8], at: usize) -> bool
-    ensures { λ b. ⌜ b ≡ allZero (drop at (now (r .entry))) ⌝ }
-{
-    let mut i = at;
-    while i < r.len() {
-        if r[i] != 0 {
-            return false;
-        }
-        i += 1;
-    }
-    true
 }
 
 // Counts the receipts of a list.

@@ -56,10 +56,10 @@ returns-4 c =
 returns-5 : tie.Need-returns-5
 unfolding sound
 returns-5 c =
-    let e = c .before .before .before in
+    let e = c .before .before .before .before in
     let r : Record = e .before .before .before .before .before .before .before .args .r in
     let w : isWordSize (r .w) ≡ true = word-passed (e .before .before .before) in
-    let f : allBelow (2 ^ r .w) (r .chain) ≡ true = sym (c .before .before .words-below .ensures) ∙ not-false _ (c .before .if4 .left) in
+    let f : allBelow (2 ^ r .w) (r .chain) ≡ true = sym (c .before .before .before .words-below .ensures) ∙ not-false _ (c .before .before .if4 .left) in
     rw (w, digest-passed (e .before), few-passed e, f)
     (c .zero-from .ensures ∙ ap (λ (k : ℕ). allZero (drop (r .total % k) (r .held))) (sym (block-is (r .w) w)))
 
@@ -76,5 +76,6 @@ is-sound-spec =
     returns-4
     (λ c. record { fits = omega (arith, bytes-most _ (word-passed (c .before .before .before .before .before))) })
     (λ c. bytes-some _ (word-passed (c .before .before .before .before .before)))
+    (λ c. search needs)
     (λ c κs. search needs)
     returns-5)

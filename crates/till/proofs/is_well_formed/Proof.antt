@@ -76,4 +76,4 @@ is-well-formed-spec =
     let f : unusedZero r (e .before .before .length-of .result) ≡ true = sym (c .before .before .is-unused-zero .ensures) ∙ not-false _ (c .before .if4 .left) in
     sym (sym (by-length r (e .before .before .length-of .ensures))
     ∙ rw (word-passed (e .before .before .before .before .before), eq-eqb (at r 1) 0 (e .before .before .before .if2 .left), digest-passed e, f)
-    (sym (c .is-zero-from .ensures)))))
+    (sym (c .zero-from .ensures)))))
