@@ -298,7 +298,7 @@ fn file(
         say(b"a file's name is too long");
         return false;
     }
-    let t = read_file(&text[..n], opened);
+    let t = read_file(&text[..n], opened, line);
     if !t.good {
         return false;
     }
@@ -308,36 +308,35 @@ fn file(
     print_receipt(digest, opened.n, receipt, &text[..n], line)
 }
 
-// The record of a file's bytes. A dash names standard input.
-fn read_file(name: &[u8], opened: Record) -> Reading {
+// The record of a file's bytes, which are read into chunk part by part. A dash names standard input.
+fn read_file(name: &[u8], opened: Record, chunk: &mut [u8]) -> Reading {
     if equal::equal_bytes(name, b"-") {
-        return read_all(STDIN_FILENO, name, opened);
+        return read_all(STDIN_FILENO, name, opened, chunk);
     }
     let fd = os::open_read(name);
     if fd < 0 {
         fail(name);
         return so_far(false, false, opened);
     }
-    let t = read_all(fd, name, opened);
+    let t = read_all(fd, name, opened, chunk);
     libc::close(fd);
     t
 }
 
 // A proved loop has to end, and nothing says that a file does, so the reads are counted down from a number that no run uses up.
-fn read_all(fd: i32, name: &[u8], opened: Record) -> Reading {
+fn read_all(fd: i32, name: &[u8], opened: Record, chunk: &mut [u8]) -> Reading {
     let mut t = so_far(true, true, opened);
     let mut reads = u64::MAX;
     while reads > 0 && t.more {
-        t = read_some(fd, name, t.record);
+        t = read_some(fd, name, t.record, chunk);
         reads -= 1;
     }
     t
 }
 
 // Reads once, and appends what came.
-fn read_some(fd: i32, name: &[u8], r: Record) -> Reading {
-    let mut chunk = io::large_buffer();
-    let got = libc::read(fd, &mut chunk);
+fn read_some(fd: i32, name: &[u8], r: Record, chunk: &mut [u8]) -> Reading {
+    let got = libc::read(fd, chunk);
     if got < 0 {
         fail(name);
         return so_far(false, false, r);
@@ -345,7 +344,7 @@ fn read_some(fd: i32, name: &[u8], r: Record) -> Reading {
     if got == 0 {
         return so_far(true, false, r);
     }
-    let n = io::count(got, &chunk);
+    let n = io::count(got, chunk);
     let o = record::append(r, &chunk[..n]);
     if o.number != 0 {
         name_wrong(name, b"it has more than 2^40 bytes");

@@ -359,22 +359,22 @@ fn answer(line: &[u8], r: Record, out: &mut [u8], left: &mut [u8], right: &mut [
     ensures { λ d. ⌜ d .length < 262208 ⌝ }
 {
     let name = script::word(line, 0);
-    if check::same(name, b"open") {
+    if equal::equal_bytes(name, b"open") {
         return open(line, r, out);
     }
-    if check::same(name, b"append") {
+    if equal::equal_bytes(name, b"append") {
         return append(line, r, out, left);
     }
-    if check::same(name, b"rewind") {
+    if equal::equal_bytes(name, b"rewind") {
         return rewind(line, r, out, left);
     }
-    if check::same(name, b"close") {
+    if equal::equal_bytes(name, b"close") {
         return close(line, r, out, right);
     }
-    if check::same(name, b"record") {
+    if equal::equal_bytes(name, b"record") {
         return show(line, r, out);
     }
-    if check::same(name, b"set") {
+    if equal::equal_bytes(name, b"set") {
         return set(line, r, out);
     }
     let length = other_answer(line, out, left, right);
@@ -390,20 +390,20 @@ fn other_answer(line: &[u8], out: &mut [u8], left: &mut [u8], right: &mut [u8]) 
     ensures { λ n. ⌜ n < 262208 ⌝ }
 {
     let name = script::word(line, 0);
-    if check::same(name, b"whole") {
+    if equal::equal_bytes(name, b"whole") {
         return whole(line, out, left, right);
     }
-    if check::same(name, b"same") {
+    if equal::equal_bytes(name, b"same") {
         return same(line, out, left, right);
     }
-    if check::same(name, b"tally") {
+    if equal::equal_bytes(name, b"tally") {
         return tally(line, out, left);
     }
-    if check::same(name, b"forward") {
-        return forward(line, out, left, right);
+    if equal::equal_bytes(name, b"forward") {
+        return block_run(line, true, out, left, right);
     }
-    if check::same(name, b"backward") {
-        return backward(line, out, left, right);
+    if equal::equal_bytes(name, b"backward") {
+        return block_run(line, false, out, left, right);
     }
     0
 }
@@ -623,8 +623,14 @@ fn fitting(size: u64, room: &[u8]) -> usize
     n
 }
 
-// forward W BYTES BYTES
-fn forward(line: &[u8], out: &mut [u8], left: &mut [u8], right: &mut [u8]) -> usize
+// forward W BYTES BYTES, or backward
+fn block_run(
+    line: &[u8],
+    is_forward: bool,
+    out: &mut [u8],
+    left: &mut [u8],
+    right: &mut [u8],
+) -> usize
     requires { ⌜ (262208 ≤ length (now out)) × (length (now left) ≤ 131072) ⌝ }
     ensures { λ n. ⌜ n < 262208 ⌝ }
 {
@@ -636,37 +642,17 @@ fn forward(line: &[u8], out: &mut [u8], left: &mut [u8], right: &mut [u8]) -> us
     }
     let m = chain.count;
     let n = block.count;
-    forward_on(w.value, &mut left[..m], &right[..n], out)
+    run_on(w.value, is_forward, &mut left[..m], &right[..n], out)
 }
 
-fn forward_on(w: u64, chain: &mut [u8], block: &[u8], out: &mut [u8]) -> usize
+fn run_on(w: u64, is_forward: bool, chain: &mut [u8], block: &[u8], out: &mut [u8]) -> usize
     requires { ⌜ (262208 ≤ length (now out)) × (length (now chain) ≤ 131072) ⌝ }
     ensures { λ n. ⌜ n < 262208 ⌝ }
 {
-    let number = block_call::forward(w, chain, block);
-    put_output(out, b"forward", number, chain)
-}
-
-// backward W BYTES BYTES
-fn backward(line: &[u8], out: &mut [u8], left: &mut [u8], right: &mut [u8]) -> usize
-    requires { ⌜ (262208 ≤ length (now out)) × (length (now left) ≤ 131072) ⌝ }
-    ensures { λ n. ⌜ n < 262208 ⌝ }
-{
-    let w = script::number_at(line, 1);
-    let chain = script::bytes_at(line, 2, left);
-    let block = script::bytes_at(line, 3, right);
-    if script::count_spaces(line) != 3 || !w.is || !chain.is || !block.is {
-        return 0;
+    if is_forward {
+        let number = block_call::forward(w, chain, block);
+        return put_output(out, b"forward", number, chain);
     }
-    let m = chain.count;
-    let n = block.count;
-    backward_on(w.value, &mut left[..m], &right[..n], out)
-}
-
-fn backward_on(w: u64, chain: &mut [u8], block: &[u8], out: &mut [u8]) -> usize
-    requires { ⌜ (262208 ≤ length (now out)) × (length (now chain) ≤ 131072) ⌝ }
-    ensures { λ n. ⌜ n < 262208 ⌝ }
-{
     let number = block_call::backward(w, chain, block);
     put_output(out, b"backward", number, chain)
 }

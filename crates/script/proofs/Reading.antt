@@ -15,8 +15,8 @@ use Rattle.lsh.specs.Tabulate.{at, tabulate}
 use Rattle.lsh.proofs.Tabulate.{length-tabulate}
 use Rattle.lsh.proofs.Tests.{and-true}
 use Rattle.script.specs.declared.Number.{Number}
-use Rattle.script.specs.Numbers.{isDigit, allDigits, valueAfter, isNumber, noNumber, numberOf}
-use Rattle.script.specs.Hex.{isHexDigit, allHex, byteOf, isDash, isHexBytes, isBytes, bytesOf, noLength, lengthOf, written}
+use Rattle.script.specs.Numbers.{isDigit, allDigits, valueAfter, isNumber, noNumber, wordNumber}
+use Rattle.script.specs.Hex.{isHexDigit, allHex, byteOf, isDash, isHexBytes, isBytes, wordBytes, noLength, wordLength, written}
 
 -- a decimal digit lies between 0 and 9
 pub digit-low : (c : ℕ) → isDigit c ≡ true → 48 ≤ c
@@ -29,12 +29,12 @@ digit-high c e = leb-true c 57 (and-true (leb 48 c) (leb c 57) e .1)
 abbrev pub numberAfter : ℕ → List ℕ → Number
 numberAfter x s = cond (allDigits s && ltb (valueAfter x s) (2 ^ 64)) (record { is = true; value = valueAfter x s }) noNumber
 
-pub number-empty : (s : List ℕ) → length s ≡ 0 → noNumber ≡ numberOf s
-unfolding numberOf isNumber
+pub number-empty : (s : List ℕ) → length s ≡ 0 → noNumber ≡ wordNumber s
+unfolding wordNumber isNumber
 number-empty s e = rw (eq-eqb (length s) 0 e)
 
-pub number-some : (s : List ℕ) → (length s ≡ 0 → ⊥) → numberOf s ≡ numberAfter 0 s
-unfolding numberOf isNumber
+pub number-some : (s : List ℕ) → (length s ≡ 0 → ⊥) → wordNumber s ≡ numberAfter 0 s
+unfolding wordNumber isNumber
 number-some s ne = rw (ne-eqb (length s) 0 ne)
 
 value-grows : (x : ℕ) (s : List ℕ) → x ≤ valueAfter x s
@@ -48,17 +48,17 @@ and-false false = refl
 too-large : (x : ℕ) (s : List ℕ) → 2 ^ 64 ≤ x → numberAfter x s ≡ noNumber
 too-large x s h = rw (le-ltb (valueAfter x s) (2 ^ 64) (le-trans h (value-grows x s)), and-false (allDigits s))
 
-module _ (s : List ℕ) (i x : ℕ) (passed : numberOf s ≡ numberAfter x (drop i s)) where
-  pub number-other : i < length s → isDigit (getD s i 0) ≡ false → noNumber ≡ numberOf s
+module _ (s : List ℕ) (i x : ℕ) (passed : wordNumber s ≡ numberAfter x (drop i s)) where
+  pub number-other : i < length s → isDigit (getD s i 0) ≡ false → noNumber ≡ wordNumber s
   number-other lt e = sym (passed ∙ rw (drop-cons s i 0 lt, e))
 
-  pub number-more : i < length s → isDigit (getD s i 0) ≡ true → numberOf s ≡ numberAfter (10 * x + (getD s i 0 - 48)) (drop (i + 1) s)
+  pub number-more : i < length s → isDigit (getD s i 0) ≡ true → wordNumber s ≡ numberAfter (10 * x + (getD s i 0 - 48)) (drop (i + 1) s)
   number-more lt e = passed ∙ rw (add-one i, drop-cons s i 0 lt, e)
 
-  pub number-large : i < length s → isDigit (getD s i 0) ≡ true → 2 ^ 64 ≤ 10 * x + (getD s i 0 - 48) → noNumber ≡ numberOf s
+  pub number-large : i < length s → isDigit (getD s i 0) ≡ true → 2 ^ 64 ≤ 10 * x + (getD s i 0 - 48) → noNumber ≡ wordNumber s
   number-large lt e h = sym (number-more lt e ∙ too-large (10 * x + (getD s i 0 - 48)) (drop (i + 1) s) h)
 
-  pub number-all : length s ≤ i → x < 2 ^ 64 → record { is = true; value = x } ≡ numberOf s
+  pub number-all : length s ≤ i → x < 2 ^ 64 → record { is = true; value = x } ≡ wordNumber s
   number-all le h = sym (passed ∙ rw (drop-of-length-le s {i = i} le, lt-ltb x (2 ^ 64) h))
 
 -- hexadecimal digits
@@ -94,25 +94,25 @@ unfolding isHexBytes
 all-hex-of s e = and-true (not (eqb (length s) 0) && eqb (length s % 2) 0) (allHex s) e .1
 
 module _ (s output : List ℕ) where
-  pub dash-length : isDash s ≡ true → record { is = true; count = 0 } ≡ lengthOf s (length output)
-  unfolding lengthOf isBytes bytesOf
+  pub dash-length : isDash s ≡ true → record { is = true; count = 0 } ≡ wordLength s (length output)
+  unfolding wordLength isBytes wordBytes
   dash-length d = rw d
 
   pub dash-written : isDash s ≡ true → output ≡ written s output
-  unfolding written isBytes bytesOf
+  unfolding written isBytes wordBytes
   dash-written d = rw d
 
   module _ (d : isDash s ≡ false) where
-    pub other-length : isHexBytes s ≡ false → noLength ≡ lengthOf s (length output)
-    unfolding lengthOf isBytes
+    pub other-length : isHexBytes s ≡ false → noLength ≡ wordLength s (length output)
+    unfolding wordLength isBytes
     other-length h = rw (d, h)
 
     pub other-written : isHexBytes s ≡ false → output ≡ written s output
     unfolding written isBytes
     other-written h = rw (d, h)
 
-    pub short-length : length output < length s / 2 → noLength ≡ lengthOf s (length output)
-    unfolding lengthOf isBytes
+    pub short-length : length output < length s / 2 → noLength ≡ wordLength s (length output)
+    unfolding wordLength isBytes
     short-length lt = rw (d, lt-leb (length s / 2) (length output) lt, and-false (isHexBytes s))
 
     pub short-written : length output < length s / 2 → output ≡ written s output
@@ -120,10 +120,10 @@ module _ (s output : List ℕ) where
     short-written lt = rw (d, lt-leb (length s / 2) (length output) lt, and-false (isHexBytes s))
 
     module _ (h : isHexBytes s ≡ true) (le : length s / 2 ≤ length output) where
-      pub some-length : record { is = true; count = length s / 2 } ≡ lengthOf s (length output)
-      unfolding lengthOf isBytes bytesOf
+      pub some-length : record { is = true; count = length s / 2 } ≡ wordLength s (length output)
+      unfolding wordLength isBytes wordBytes
       some-length = rw (d, h, le-leb (length s / 2) (length output) le, length-tabulate (length s / 2) (byteOf s))
 
       pub some-written : sets output 0 (tabulate (length s / 2) (byteOf s)) ≡ written s output
-      unfolding written isBytes bytesOf
+      unfolding written isBytes wordBytes
       some-written = rw (d, h, le-leb (length s / 2) (length output) le)

@@ -39,19 +39,19 @@ unfoldable pub isBytes : List ℕ → ℕ → Bool
 isBytes s most = isDash s || (isHexBytes s && leb (length s / 2) most)
 
 -- the bytes that such a word says
-unfoldable pub bytesOf : List ℕ → List ℕ
-bytesOf s = cond (isDash s) [] (tabulate (length s / 2) (byteOf s))
+unfoldable pub wordBytes : List ℕ → List ℕ
+wordBytes s = cond (isDash s) [] (tabulate (length s / 2) (byteOf s))
 
 abbrev pub noLength : Length
 noLength = record { is = false; count = 0 }
 
 -- how many bytes a word says
-unfoldable pub lengthOf : List ℕ → ℕ → Length
-lengthOf s most = cond (isBytes s most) (record { is = true; count = length (bytesOf s) }) noLength
+unfoldable pub wordLength : List ℕ → ℕ → Length
+wordLength s most = cond (isBytes s most) (record { is = true; count = length (wordBytes s) }) noLength
 
 -- the output with the bytes at its front
 unfoldable pub written : List ℕ → List ℕ → List ℕ
-written s output = cond (isBytes s (length output)) (sets output 0 (bytesOf s)) output
+written s output = cond (isBytes s (length output)) (sets output 0 (wordBytes s)) output
 
 -- the digit of a value
 unfoldable pub hexDigit : ℕ → ℕ

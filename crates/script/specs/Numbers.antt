@@ -29,8 +29,8 @@ abbrev pub noNumber : Number
 noNumber = record { is = false; value = 0 }
 
 -- what a word says as a number
-unfoldable pub numberOf : List ℕ → Number
-numberOf s = cond (isNumber s) (record { is = true; value = valueAfter 0 s }) noNumber
+unfoldable pub wordNumber : List ℕ → Number
+wordNumber s = cond (isNumber s) (record { is = true; value = valueAfter 0 s }) noNumber
 
 -- the number of the k bytes from place a on, the highest first
 unfoldable pub highestFirst : ℕ → List ℕ → ℕ → ℕ

@@ -6,8 +6,8 @@ ghost use lib.ListN.{length, take, drop, replicate};
 ghost use lib.Seq.{sets};
 ghost use Rattle.lsh.specs.Tabulate.{tabulate};
 ghost use Rattle.script.specs.Words.{before, spaces, afterSpaces, wordAt};
-ghost use Rattle.script.specs.Numbers.{isDigit, noNumber, numberOf, highestFirst};
-ghost use Rattle.script.specs.Hex.{isHexDigit, allHex, hexValue, byteOf, isDash, isHexBytes, noLength, lengthOf, written, hexDigit, digitAt, digitsOf, printed};
+ghost use Rattle.script.specs.Numbers.{isDigit, noNumber, wordNumber, highestFirst};
+ghost use Rattle.script.specs.Hex.{isHexDigit, allHex, hexValue, byteOf, isDash, isHexBytes, noLength, wordLength, written, hexDigit, digitAt, digitsOf, printed};
 
 // The number that a word says, if it is one.
 pub struct Number {
@@ -80,13 +80,13 @@ fn after_spaces(line: &[u8], k: usize) -> usize
 
 // Word i of a line as a number.
 pub fn number_at(line: &[u8], i: usize) -> Number
-    ensures { λ r. ⌜ r ≡ numberOf (wordAt i (now (line .entry))) ⌝ }
+    ensures { λ r. ⌜ r ≡ wordNumber (wordAt i (now (line .entry))) ⌝ }
 {
     read_number(word(line, i))
 }
 
 pub fn read_number(word: &[u8]) -> Number
-    ensures { λ r. ⌜ r ≡ numberOf (now (word .entry)) ⌝ }
+    ensures { λ r. ⌜ r ≡ wordNumber (now (word .entry)) ⌝ }
 {
     if word.len() == 0 {
         return no_number();
@@ -137,14 +137,14 @@ fn digit_value(c: u8) -> u64
 // Word i of a line as BYTES. The bytes are written at the output's front, if they have room there. The second clause is what lending
 // them as &output[..count] asks.
 pub fn bytes_at(line: &[u8], i: usize, output: &mut [u8]) -> Length
-    ensures { λ r. ⌜ (r ≡ lengthOf (wordAt i (now (line .entry))) (length (now (output .entry)))) × (now (output .exit) ≡ written (wordAt i (now (line .entry))) (now (output .entry))) ⌝ }
+    ensures { λ r. ⌜ (r ≡ wordLength (wordAt i (now (line .entry))) (length (now (output .entry)))) × (now (output .exit) ≡ written (wordAt i (now (line .entry))) (now (output .entry))) ⌝ }
     ensures { λ r. ⌜ (r .count ≤ length (now (output .exit))) × (r .count ≡ length (take (r .count) (now (output .exit)))) ⌝ }
 {
     read_bytes(word(line, i), output)
 }
 
 fn read_bytes(word: &[u8], output: &mut [u8]) -> Length
-    ensures { λ r. ⌜ (r ≡ lengthOf (now (word .entry)) (length (now (output .entry)))) × (r .count ≤ length (now (output .entry))) × (now (output .exit) ≡ written (now (word .entry)) (now (output .entry))) ⌝ }
+    ensures { λ r. ⌜ (r ≡ wordLength (now (word .entry)) (length (now (output .entry)))) × (r .count ≤ length (now (output .entry))) × (now (output .exit) ≡ written (now (word .entry)) (now (output .entry))) ⌝ }
 {
     if is_dash(word) {
         return Length { is: true, count: 0 };

@@ -7,14 +7,14 @@ use Prim.Native.Nat.{ℕ, _*_, _%_, _≤_, _<_}
 use borrow.Author.Tests.{eq-eqb, lt-ltb, le-ltb}
 use lib.ListN.{length}
 use Rattle.finalization.specs.Receipt.{receiptBytes}
-use Rattle.till.specs.Tally.{mostReceipts, receiptCount, receipts, firstMalformed, isBadLength, refused, counted, tallyCall}
+use Rattle.till.specs.Tally.{mostReceipts, receiptCount, receipts, firstMalformed, isBadLength, refusedTally, counted, tallyCall}
 
 module _ (s : List ℕ) (whole : length s % receiptBytes ≡ 0) (few : length s ≤ mostReceipts * receiptBytes) {place : ℕ} (is : place ≡ firstMalformed s 0 (receiptCount s)) where
   fine : isBadLength s ≡ false
   unfolding isBadLength
   fine = rw (eq-eqb (length s % receiptBytes) 0 whole, le-ltb (mostReceipts * receiptBytes) (length s) few)
 
-  pub malformed-answer : place < receiptCount s → refused 14 place ≡ tallyCall s
+  pub malformed-answer : place < receiptCount s → refusedTally 14 place ≡ tallyCall s
   unfolding tallyCall
   malformed-answer lt = rw (fine, ← is, lt-ltb place (receiptCount s) lt)
 

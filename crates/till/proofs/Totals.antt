@@ -10,13 +10,13 @@ use lib.Dec.{ltb}
 use Rattle.finalization.specs.Receipt.{receiptBytes}
 use Rattle.till.specs.declared.Counts.{Counts}
 use Rattle.till.specs.WellFormed.{wellFormed}
-use Rattle.till.specs.Tally.{mostReceipts, receiptCount, receiptAt, receipts, firstMalformed, firsts, reprints, isBadLength, refused, counted, tallyCall}
+use Rattle.till.specs.Tally.{mostReceipts, receiptCount, receiptAt, receipts, firstMalformed, firsts, reprints, isBadLength, refusedTally, counted, tallyCall}
 use Rattle.till.proofs.Malformed.{place-malformed, before-well-formed}
 use Rattle.till.proofs.Counting.{all-counted, length-receipts}
 
 -- the answer by its two tests
 abbrev answer : Bool → Bool → ℕ → List (List ℕ) → Counts
-answer bad malformed place rs = cond bad (refused 13 0) (cond malformed (refused 14 place) (counted rs))
+answer bad malformed place rs = cond bad (refusedTally 13 0) (cond malformed (refusedTally 14 place) (counted rs))
 
 module _ (s : List ℕ) where
   abbrev place : ℕ
@@ -27,7 +27,7 @@ module _ (s : List ℕ) where
 
   -- firsts and reprints of an accepted tally are all receipts
   pub tally-total : tallyCall s .number ≡ 0 → tallyCall s .firsts + tallyCall s .reprints ≡ receiptCount s
-  unfolding tallyCall refused counted
+  unfolding tallyCall refusedTally counted
   tally-total taken = go (isBadLength s) (ltb place (receiptCount s)) taken
     where
       go : (bad malformed : Bool) → answer bad malformed place rs .number ≡ 0
@@ -40,7 +40,7 @@ module _ (s : List ℕ) where
   pub tally-place : tallyCall s .number ≡ 14
       → (tallyCall s .place < receiptCount s) × (wellFormed (receiptAt s (tallyCall s .place)) ≡ false)
       × ((j : ℕ) → j < tallyCall s .place → wellFormed (receiptAt s j) ≡ true)
-  unfolding tallyCall refused counted
+  unfolding tallyCall refusedTally counted
   tally-place said = go (isBadLength s) (ltb place (receiptCount s)) refl said
     where
       go : (bad malformed : Bool) → ltb place (receiptCount s) ≡ malformed → answer bad malformed place rs .number ≡ 14

@@ -51,8 +51,8 @@ unfoldable pub isBadLength : List ℕ → Bool
 isBadLength s = not (eqb (length s % receiptBytes) 0) || ltb (mostReceipts * receiptBytes) (length s)
 
 -- a refused tally, with the place of a malformed receipt or 0
-unfoldable pub refused : ℕ → ℕ → Counts
-refused number place = record { number = number; place = place; firsts = 0; reprints = 0 }
+unfoldable pub refusedTally : ℕ → ℕ → Counts
+refusedTally number place = record { number = number; place = place; firsts = 0; reprints = 0 }
 
 unfoldable pub counted : List (List ℕ) → Counts
 counted rs = record { number = 0; place = 0; firsts = firsts rs; reprints = reprints rs }
@@ -60,6 +60,6 @@ counted rs = record { number = 0; place = 0; firsts = firsts rs; reprints = repr
 -- Tally: 13 if the length is wrong, then 14 with the place of the first malformed receipt, else 0 and the counts
 unfoldable pub tallyCall : List ℕ → Counts
 tallyCall s =
-    cond (isBadLength s) (refused 13 0)
-    (cond (ltb (firstMalformed s 0 (receiptCount s)) (receiptCount s)) (refused 14 (firstMalformed s 0 (receiptCount s)))
+    cond (isBadLength s) (refusedTally 13 0)
+    (cond (ltb (firstMalformed s 0 (receiptCount s)) (receiptCount s)) (refusedTally 14 (firstMalformed s 0 (receiptCount s)))
     (counted (receipts s (receiptCount s))))

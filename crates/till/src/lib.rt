@@ -7,7 +7,7 @@ ghost use Rattle.finalization.specs.Receipt.{receiptBytes};
 ghost use Rattle.equal.specs.Equal.{equal};
 ghost use Rattle.till.specs.WellFormed.{lengthOf, unusedZero, wellFormed};
 ghost use Rattle.till.specs.Same.{sameCall};
-ghost use Rattle.till.specs.Tally.{mostReceipts, receiptCount, receiptAt, receipts, firstMalformed, isOneOf, counted, refused, tallyCall};
+ghost use Rattle.till.specs.Tally.{mostReceipts, receiptCount, receiptAt, receipts, firstMalformed, isOneOf, counted, refusedTally, tallyCall};
 ghost use Rattle.till.specs.Checksum.{checksum};
 use finalization::RECEIPT;
 
@@ -139,7 +139,7 @@ pub fn tally(list: &[u8]) -> Counts
 }
 
 fn refusal(number: u32, place: u64) -> Counts
-    ensures { λ r. ⌜ r ≡ refused number place ⌝ }
+    ensures { λ r. ⌜ r ≡ refusedTally number place ⌝ }
 {
     Counts {
         number: number,

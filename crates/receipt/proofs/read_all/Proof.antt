@@ -1,14 +1,15 @@
 -- `receipt::read_all` is safe and ends. The measure is the number of reads that are left. Assumes nothing.
+use mathlib.Core.Path.{_≡_, refl}
 use native.Mathlib.Omega.{arith}
+use lib.ListN.{length}
 use Rattle.receipt.proofs.read_all.Statement.{statement}
 use Rattle.receipt.proofs.read_all.Tie as tie
 
 abbrev Inv-loop : tie.InvT-loop
-Inv-loop fd name t₀ reads₀ t reads = Unit {0}
+Inv-loop fd name chunk₀ t₀ reads₀ chunk t reads = length chunk ≡ length chunk₀
 
 abbrev μ-loop : tie.MeasureT-loop
-μ-loop fd name t₀ reads₀ t reads = reads
+μ-loop fd name chunk₀ t₀ reads₀ chunk t reads = reads
 
 pub read-all-spec : {M : Type 1} → statement M
-read-all-spec =
-    tie.close (tie.spec Inv-loop μ-loop (λ c κs. tt) (λ c. tt) (λ c κs. tt) (λ c. omega arith) (λ c. omega arith) (λ c. tt) (λ c. tt) (λ c. tt))
+read-all-spec = tie.close (tie.spec Inv-loop μ-loop (λ c κs. tt) (λ c. refl) (λ c κs. tt) (λ c. omega arith) (λ c. omega arith) (λ c. omega (arith, c .before .before .read-some .kept .1 .1 .1 .0)) (λ c. c .before .before .loop .inv) (λ c. tt) (λ c. c .before .loop .inv) (λ c. tt))

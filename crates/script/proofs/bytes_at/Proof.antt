@@ -6,7 +6,7 @@ use native.Mathlib.Omega.{arith}
 use lib.ListN.{length}
 use lib.Seq.{length-take-le}
 use borrow.Author.Needs.{needs}
-use Rattle.script.specs.Hex.{lengthOf, written}
+use Rattle.script.specs.Hex.{wordLength, written}
 use Rattle.script.proofs.bytes_at.Statement.{statement}
 use Rattle.script.proofs.bytes_at.Tie as tie
 
@@ -22,6 +22,6 @@ bytes-at-spec =
     let e = c .before .before .before .before .word .ensures in
     let p = c .before .before .read-bytes in
     let fits : p .result .count ≤ length (p .last .1 .0) = omega arith in (
-      (p .ensures .0 ∙ ap (λ (s : List ℕ). lengthOf s (length output)) e, p .ensures .2 ∙ ap (λ (s : List ℕ). written s output) e),
+      (p .ensures .0 ∙ ap (λ (s : List ℕ). wordLength s (length output)) e, p .ensures .2 ∙ ap (λ (s : List ℕ). written s output) e),
       (fits, sym (length-take-le (p .result .count) (p .last .1 .0) fits)),
     )))

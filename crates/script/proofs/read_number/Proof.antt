@@ -5,13 +5,13 @@ use native.Mathlib.Omega.{arith}
 use lib.ListN.{length, drop}
 use borrow.Author.Needs.{needs}
 use borrow.Author.Tests.{not-true, not-false}
-use Rattle.script.specs.Numbers.{numberOf}
+use Rattle.script.specs.Numbers.{wordNumber}
 use Rattle.script.proofs.Reading.{numberAfter, number-empty, number-some, number-other, number-more, number-large, number-all}
 use Rattle.script.proofs.read_number.Statement.{statement}
 use Rattle.script.proofs.read_number.Tie as tie
 
 abbrev Inv-loop : tie.InvT-loop
-Inv-loop word x₀ i₀ x i = (i ≤ length word) × (numberOf word ≡ numberAfter x (drop i word)) × (x < 2 ^ 64)
+Inv-loop word x₀ i₀ x i = (i ≤ length word) × (wordNumber word ≡ numberAfter x (drop i word)) × (x < 2 ^ 64)
 
 abbrev μ-loop : tie.MeasureT-loop
 μ-loop word x₀ i₀ x i = length word - i
