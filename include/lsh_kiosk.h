@@ -3,48 +3,159 @@
  * Link with liblsh_kiosk.a alone; no other library is needed. Every call returns for every argument that the declarations below allow,
  * keeps no memory between calls, and reads and writes only the buffers that it is lent. A buffer is a pointer and its length in bytes.
  * A pointer may be anything where the length is 0, but must not be null. The buffers of one call do not overlap if one of them is
- * written. What each call answers and writes is proved for all arguments (docs/PROMISES.md).
+ * written. Records and answers pass by value: a call changes no record that it is given, and the caller keeps the one that it returns.
+ * What each call answers and writes is proved for all arguments (docs/PROMISES.md). examples/order.c uses the calls for an order.
  */
 #ifndef LSH_KIOSK_H
 #define LSH_KIOSK_H
 
+#include <assert.h>
 #include <stddef.h>
 #include <stdint.h>
+#ifndef __cplusplus
+#include <stdbool.h>
+#endif
 
 #ifdef __cplusplus
 extern "C" {
 #endif
 
-/* What a call answers. */
+/* ---- answers ---- */
+
+/* What a call answers: 0, or why it refuses. Each call below names the refusals that it can give, in the order in which it tests them. A
+ * refused call changes nothing. */
 #define LSH_ACCEPTED 0u
 #define LSH_BAD_WORD_SIZE 1u     /* w is neither 32 nor 64 */
 #define LSH_BAD_DIGEST_LENGTH 2u /* n is 0 or above 8w */
+#define LSH_UNSOUND_RECORD 3u    /* the record is not sound: see lsh_record */
 #define LSH_BAD_LENGTH 4u        /* a chain that is not 2w bytes or a block that is not 4w bytes */
-#define LSH_TOO_LONG 5u          /* a message of more than 2^40 bytes */
+#define LSH_TOO_LONG 5u          /* a message or an order of more than LSH_MOST_BYTES bytes */
+#define LSH_BAD_START 6u         /* bytes handed back that are longer than the order, or do not begin where a block begins */
+#define LSH_BAD_KEEP 7u          /* more bytes to keep than were handed back, or a block or more */
+#define LSH_HELD_DIFFER 8u       /* the last bytes handed back are not those that the record holds */
+#define LSH_OPENING_DIFFERS 9u   /* all of the order was handed back, and it does not lead back to the opening chain */
 #define LSH_BAD_EXTRA_BITS 10u   /* e is above 7 */
 #define LSH_BAD_LAST_BYTE 11u    /* one of the low 8 - e bits of the last byte is set */
 #define LSH_SHORT_OUTPUT 12u     /* an output of less than LSH_RECEIPT_BYTES bytes */
+#define LSH_NO_RECEIPTS 13u      /* not as many bytes as one receipt, or as a list of at most LSH_MOST_RECEIPTS receipts, has */
+#define LSH_MALFORMED 14u        /* a receipt that has not the form of one: see lsh_whole */
+
+/* ---- figures ---- */
 
 /* Bytes of a chain and of a block, by word size. */
 #define LSH_CHAIN_BYTES(w) (2 * (w))
 #define LSH_BLOCK_BYTES(w) (4 * (w))
+
+/* The most bytes of a message or of an order. */
+#define LSH_MOST_BYTES (UINT64_C(1) << 40)
+
+/* Bytes of a receipt, and the most receipts of a list. */
+#define LSH_RECEIPT_BYTES 68
+#define LSH_MOST_RECEIPTS 960
+
+/* ---- records and answers with more than a number ---- */
+
+/* What is kept of an order between calls: the word size, the digest length in bits, how many bytes the order has, the chain after its
+ * whole blocks, and in `held` the bytes since the last whole block, the other places zero. The record is plain data: it can be copied, kept and
+ * stored, and an old copy is still the record of the order as it was then.
+ * A record is sound if w is 32 or 64, n is from 1 to 8w, total is at most LSH_MOST_BYTES, each word of the chain is below 2^w, and each
+ * held byte from place (total mod 4w) on is zero. */
+typedef struct lsh_record {
+    uint64_t w, n, total;
+    uint64_t chain[16];
+    uint8_t held[256];
+} lsh_record;
+
+/* The answer to a call on an order: its number, how many blocks were run (0 if it is refused), and the record that follows (the one given
+ * if it is refused). */
+typedef struct lsh_outcome {
+    uint32_t number;
+    uint64_t count;
+    lsh_record next;
+} lsh_outcome;
+
+/* The answer to lsh_same: its number, and whether the receipts are the same (false if it is refused). */
+typedef struct lsh_sameness {
+    uint32_t number;
+    bool same;
+} lsh_sameness;
+
+/* The answer to lsh_tally: its number, the place of the first malformed receipt, counted from 0, if the number is LSH_MALFORMED (else 0),
+ * how many receipts are firsts and how many are reprints (0 and 0 if it is refused). */
+typedef struct lsh_counts {
+    uint32_t number;
+    uint64_t place, firsts, reprints;
+} lsh_counts;
+
+/* The archive has these layouts. */
+static_assert(offsetof(lsh_record, w) == 0 && offsetof(lsh_record, n) == 8 && offsetof(lsh_record, total) == 16
+                  && offsetof(lsh_record, chain) == 24 && offsetof(lsh_record, held) == 152 && sizeof(lsh_record) == 408,
+              "lsh_record is laid out as in the archive");
+static_assert(offsetof(lsh_outcome, number) == 0 && offsetof(lsh_outcome, count) == 8 && offsetof(lsh_outcome, next) == 16
+                  && sizeof(lsh_outcome) == 424,
+              "lsh_outcome is laid out as in the archive");
+static_assert(offsetof(lsh_sameness, number) == 0 && offsetof(lsh_sameness, same) == 4 && sizeof(bool) == 1 && sizeof(lsh_sameness) == 8,
+              "lsh_sameness is laid out as in the archive");
+static_assert(offsetof(lsh_counts, number) == 0 && offsetof(lsh_counts, place) == 8 && offsetof(lsh_counts, firsts) == 16
+                  && offsetof(lsh_counts, reprints) == 24 && sizeof(lsh_counts) == 32,
+              "lsh_counts is laid out as in the archive");
+
+/* ---- blocks ---- */
 
 /* Runs one block forward on a chain, or backward: each undoes the other. The chain is 16 words of w bits, lowest byte first.
  * Answers 0 and replaces the chain, or answers LSH_BAD_WORD_SIZE or LSH_BAD_LENGTH, tested in that order, and changes nothing. */
 uint32_t lsh_block_forward(uint64_t w, uint8_t *chain, size_t chain_len, const uint8_t *block, size_t block_len);
 uint32_t lsh_block_backward(uint64_t w, uint8_t *chain, size_t chain_len, const uint8_t *block, size_t block_len);
 
-/* Bytes of a receipt. */
-#define LSH_RECEIPT_BYTES 68
+/* ---- an order ---- */
+
+/* Begins an order. w is the word size, 32 or 64, and n the digest length in bits, from 1 to 8w: LSH-256-n and LSH-512-n of the published
+ * definition.
+ * Answers 0 with the record of an order of no bytes; or answers LSH_BAD_WORD_SIZE or LSH_BAD_DIGEST_LENGTH, tested in that order, with a
+ * record of zeros, which every other call refuses. The count is 0. */
+lsh_outcome lsh_open(uint64_t w, uint64_t n);
+
+/* Adds a piece of any length to the end of an order.
+ * Answers 0 with the record of the longer order and the number of blocks that were run forward: the whole blocks of the order after the
+ * piece less those before it. Or answers LSH_UNSOUND_RECORD or LSH_TOO_LONG, tested in that order. */
+lsh_outcome lsh_append(lsh_record r, const uint8_t *piece, size_t piece_len);
+
+/* Takes bytes off the end of an order. h are the last bytes of the order, from a place on where a block begins (a multiple of 4w); the
+ * first `keep` of them remain, less than a block. To cut an order to c bytes, keep is c mod 4w and h is what the order has from place
+ * c - keep on (docs/GUIDE.md has a drawing).
+ * Answers 0 with the record of the shorter order and the number of blocks that were run backward: the whole blocks of h. Or answers
+ * LSH_UNSOUND_RECORD, LSH_BAD_START, LSH_BAD_KEEP, LSH_HELD_DIFFER or LSH_OPENING_DIFFERS, tested in that order. Hand back what was
+ * appended: other bytes are taken where none of these tests shows them, and the record that follows is then not that of the order. */
+lsh_outcome lsh_rewind(lsh_record r, uint64_t keep, const uint8_t *h, size_t h_len);
+
+/* Writes the receipt of an order: its bytes, and then the top e bits of one more byte, `last`. Where the order is a whole number of bytes,
+ * last and e are 0. The receipt is the one that lsh_whole writes for these bytes. The order may go on after it.
+ * Answers 0 and writes the first LSH_RECEIPT_BYTES bytes of the output, and no other; or answers LSH_UNSOUND_RECORD, LSH_BAD_EXTRA_BITS,
+ * LSH_BAD_LAST_BYTE or LSH_SHORT_OUTPUT, tested in that order, and changes nothing. */
+uint32_t lsh_close(lsh_record r, uint8_t last, uint64_t e, uint8_t *output, size_t output_len);
+
+/* ---- one message ---- */
 
 /* Writes the receipt of a message: its bytes, and then the top e bits of one more byte, `last`. Where the message is a whole number of bytes,
- * last and e are 0. w is the word size, 32 or 64, and n the digest length in bits, from 1 to 8w: LSH-256-n and LSH-512-n of the published
- * definition. Byte 0 of the receipt is w, byte 1 is 0, bytes 2 and 3 are n with the low byte first, and then come the digest and zeros to
- * byte 67. Bits of the digest's last byte after the first n are 0.
+ * last and e are 0. w and n are as for lsh_open. Byte 0 of the receipt is w, byte 1 is 0, bytes 2 and 3 are n with the low byte first, and
+ * then come the digest and zeros to byte 67. Bits of the digest's last byte after the first n are 0.
  * Answers 0 and writes the first LSH_RECEIPT_BYTES bytes of the output, and no other; or answers LSH_BAD_WORD_SIZE, LSH_BAD_DIGEST_LENGTH,
  * LSH_TOO_LONG, LSH_BAD_EXTRA_BITS, LSH_BAD_LAST_BYTE or LSH_SHORT_OUTPUT, tested in that order, and changes nothing. */
 uint32_t lsh_whole(uint64_t w, uint64_t n, const uint8_t *message, size_t message_len, uint8_t last, uint64_t e, uint8_t *output,
                    size_t output_len);
+
+/* ---- receipts ---- */
+
+/* Tells whether two receipts are the same in all their bytes.
+ * Answers 0 and yes or no; or answers LSH_NO_RECEIPTS if one of the lengths is not LSH_RECEIPT_BYTES, then LSH_MALFORMED if one of the
+ * receipts is malformed: a w, byte 1 or n that no receipt has, or a bit after the digest's n that is set. */
+lsh_sameness lsh_same(const uint8_t *a, size_t a_len, const uint8_t *b, size_t b_len);
+
+/* Counts a list of receipts, which stand end to end: a receipt is a first if no earlier one is the same, and a reprint if some earlier one
+ * is. An empty list has neither.
+ * Answers 0 and the two counts; or answers LSH_NO_RECEIPTS if the length is no multiple of LSH_RECEIPT_BYTES or there are more than
+ * LSH_MOST_RECEIPTS, then LSH_MALFORMED with the place of the first malformed receipt. */
+lsh_counts lsh_tally(const uint8_t *list, size_t list_len);
 
 #ifdef __cplusplus
 }

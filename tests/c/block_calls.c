@@ -64,9 +64,6 @@ static void make_right_call(const struct run *run, uint64_t w, struct guarded *c
 
 /* ---- what is tried ---- */
 
-#define TWO_TO_32 ((uint64_t)1 << 32)
-#define TWO_TO_63 ((uint64_t)1 << 63)
-
 /* Every combination of these, the few right ones among them. Cut to 32 bits, or doubled and cut to 64, some of the
  * large ones would be right. */
 static const uint64_t tried_word_sizes[] = {

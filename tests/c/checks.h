@@ -56,6 +56,19 @@ static uint64_t next_random(void)
     return z ^ z >> 31;
 }
 
+/* ---- numbers that are tried ---- */
+
+#define TWO_TO_16 ((uint64_t)1 << 16)
+#define TWO_TO_32 ((uint64_t)1 << 32)
+#define TWO_TO_61 ((uint64_t)1 << 61)
+#define TWO_TO_63 ((uint64_t)1 << 63)
+
+/* The low 8 - e bits of a byte, e at most 7. */
+static inline uint8_t low_bits(uint64_t e)
+{
+    return (uint8_t)(0xffu >> e);
+}
+
 /* ---- buffers ---- */
 
 #define GUARD 64     /* guard bytes before and after a buffer, at least */

@@ -13,8 +13,6 @@
 #define LARGEST (2 * LSH_BLOCK_BYTES(64) + 2)
 #include "checks.h"
 
-#define LONGEST_MESSAGE ((uint64_t)1 << 40)
-
 /* ---- calls ---- */
 
 /* What a call is given, except for the two buffers. */
@@ -26,12 +24,6 @@ struct arguments {
     size_t output_len;
 };
 
-/* The low 8 - e bits of a byte, e at most 7. */
-static uint8_t low_bits(uint64_t e)
-{
-    return (uint8_t)(0xffu >> e);
-}
-
 static uint32_t right_answer(const struct arguments *given)
 {
     if (given->w != 32 && given->w != 64) {
@@ -40,7 +32,7 @@ static uint32_t right_answer(const struct arguments *given)
     if (given->n == 0 || given->n > 8 * given->w) {
         return LSH_BAD_DIGEST_LENGTH;
     }
-    if (given->message_len > LONGEST_MESSAGE) {
+    if (given->message_len > LSH_MOST_BYTES) {
         return LSH_TOO_LONG;
     }
     if (given->e > 7) {
@@ -194,11 +186,6 @@ static void try_every_last_byte(uint64_t w)
 
 /* ---- what is tried: right and wrong arguments ---- */
 
-#define TWO_TO_16 ((uint64_t)1 << 16)
-#define TWO_TO_32 ((uint64_t)1 << 32)
-#define TWO_TO_61 ((uint64_t)1 << 61)
-#define TWO_TO_63 ((uint64_t)1 << 63)
-
 /* Every combination of these, the right ones among them, so that each refusal is tried together with all that come
  * after it in order. Cut to 8, 16 or 32 bits, or multiplied by 8 and cut to 64, some of the large ones would be right;
  * an output of 2^32 + 67 bytes is right, and cut to 32 bits it would be too short. */
@@ -212,7 +199,7 @@ static const uint64_t tried_digest_lengths[] = {
 };
 /* No message of exactly 2^40 bytes: the call would accept it and read all of it. */
 static const size_t tried_message_lengths[] = {
-    0, 3, LSH_BLOCK_BYTES(32) + 1, LONGEST_MESSAGE + 1, TWO_TO_61 + 1, SIZE_MAX,
+    0, 3, LSH_BLOCK_BYTES(32) + 1, LSH_MOST_BYTES + 1, TWO_TO_61 + 1, SIZE_MAX,
 };
 static const uint64_t tried_extra_bits[] = {
     0, 1, 4, 7, 8, 9, 256, TWO_TO_32, TWO_TO_32 + 4, TWO_TO_63, UINT64_MAX,

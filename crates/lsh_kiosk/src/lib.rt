@@ -1,8 +1,18 @@
-// The calls for C. Each is declared, with its answers, in include/lsh_kiosk.h.
+// The calls for C. Each is declared, with its answers, in include/lsh_kiosk.h, and is one line over the call that it carries the
+// equation of. Records and answers pass by value.
 ghost use mathlib.Core.Path.{_≡_};
 ghost use lib.ListN.{length};
 ghost use Rattle.block_call.specs.BlockCall.{blockAnswer, forwardBytes, backwardBytes};
+ghost use Rattle.record.specs.Calls.{openCall, appendCall};
+ghost use Rattle.rewind.specs.Rewind.{rewindCall};
+ghost use Rattle.close.specs.Close.{closeAnswer, closeOutput};
 ghost use Rattle.whole.specs.Whole.{wholeAnswer, wholeOutput};
+ghost use Rattle.till.specs.Same.{sameCall};
+ghost use Rattle.till.specs.Tally.{tallyCall};
+use record::Outcome;
+use record::Record;
+use till::Counts;
+use till::Sameness;
 
 #[no_mangle]
 pub extern "C" fn lsh_block_forward(w: u64, chain: &mut [u8], block: &[u8]) -> u32
@@ -19,6 +29,34 @@ pub extern "C" fn lsh_block_backward(w: u64, chain: &mut [u8], block: &[u8]) -> 
 }
 
 #[no_mangle]
+pub extern "C" fn lsh_open(w: u64, n: u64) -> Outcome
+    ensures { λ o. ⌜ o ≡ openCall w n ⌝ }
+{
+    record::open(w, n)
+}
+
+#[no_mangle]
+pub extern "C" fn lsh_append(r: Record, piece: &[u8]) -> Outcome
+    ensures { λ o. ⌜ o ≡ appendCall r (now (piece .entry)) ⌝ }
+{
+    record::append(r, piece)
+}
+
+#[no_mangle]
+pub extern "C" fn lsh_rewind(r: Record, keep: u64, h: &[u8]) -> Outcome
+    ensures { λ o. ⌜ o ≡ rewindCall r keep (now (h .entry)) ⌝ }
+{
+    rewind::rewind(r, keep, h)
+}
+
+#[no_mangle]
+pub extern "C" fn lsh_close(r: Record, last: u8, e: u64, output: &mut [u8]) -> u32
+    ensures { λ a. ⌜ (a ≡ closeAnswer r last e (length (now (output .entry)))) × (now (output .exit) ≡ closeOutput r last e (now (output .entry))) ⌝ }
+{
+    close::close(r, last, e, output)
+}
+
+#[no_mangle]
 pub extern "C" fn lsh_whole(
     w: u64,
     n: u64,
@@ -30,4 +68,18 @@ pub extern "C" fn lsh_whole(
     ensures { λ r. ⌜ (r ≡ wholeAnswer w n (length (now (message .entry))) last e (length (now (output .entry)))) × (now (output .exit) ≡ wholeOutput w n (now (message .entry)) last e (now (output .entry))) ⌝ }
 {
     whole::whole(w, n, message, last, e, output)
+}
+
+#[no_mangle]
+pub extern "C" fn lsh_same(a: &[u8], b: &[u8]) -> Sameness
+    ensures { λ r. ⌜ r ≡ sameCall (now (a .entry)) (now (b .entry)) ⌝ }
+{
+    till::same(a, b)
+}
+
+#[no_mangle]
+pub extern "C" fn lsh_tally(list: &[u8]) -> Counts
+    ensures { λ r. ⌜ r ≡ tallyCall (now (list .entry)) ⌝ }
+{
+    till::tally(list)
 }

@@ -12,7 +12,8 @@ ghost use Rattle.record.specs.Record.{heldOf, allBelow, allZero, sound, 
 ghost use Rattle.record.specs.Calls.{refused, openCall, appendAccepted, appendCall};
 
 // What is kept of an order between calls: the word size, the digest length in bits, how many bytes there were, the chain after
-// their whole blocks, and the bytes held since.
+// their whole blocks, and the bytes held since. C has it by value, as lsh_record.
+#[repr(C)]
 pub struct Record {
     pub w: u64,
     pub n: u64,
@@ -21,7 +22,8 @@ pub struct Record {
     pub held: [u8; 256],
 }
 
-// The answer to a call: its number, how many blocks were run, and the record that follows.
+// The answer to a call: its number, how many blocks were run, and the record that follows. C has it as lsh_outcome.
+#[repr(C)]
 pub struct Outcome {
     pub number: u32,
     pub count: u64,

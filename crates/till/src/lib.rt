@@ -14,13 +14,15 @@ use finalization::RECEIPT;
 // The most receipts of a list.
 pub const MOST_RECEIPTS: usize = 960;
 
-// The answer to Same: its number, and whether the two receipts are the same.
+// The answer to Same: its number, and whether the two receipts are the same. C has it as lsh_sameness.
+#[repr(C)]
 pub struct Sameness {
     pub number: u32,
     pub same: bool,
 }
 
-// The answer to Tally: its number, the place of the first malformed receipt if the number is 14, and the counts.
+// The answer to Tally: its number, the place of the first malformed receipt if the number is 14, and the counts. C has it as lsh_counts.
+#[repr(C)]
 pub struct Counts {
     pub number: u32,
     pub place: u64,

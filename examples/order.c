@@ -1,0 +1,157 @@
+/* An order of pictures, as a kiosk's driver keeps it: order FILE...
+ *
+ * Prints a receipt of each picture and of the order, and how many prints are firsts and how many reprints. Then the shopper drops the
+ * last picture: the order's record is wound back, and the receipt and the counts of what remains are printed.
+ *
+ * The calls are declared, with their answers, in lsh_kiosk.h. */
+#include <errno.h>
+#include <inttypes.h>
+#include <stdio.h>
+#include <stdlib.h>
+#include <string.h>
+
+#include "lsh_kiosk.h"
+
+/* The word size and the digest length in bits: LSH-256-256, unless the compiler is told otherwise. */
+#ifndef WORD_SIZE
+#define WORD_SIZE 32
+#endif
+#ifndef DIGEST_BITS
+#define DIGEST_BITS 256
+#endif
+
+/* The bytes of the order: its pictures, one after the other. A rewind wants the last of them back; a driver that does not keep them in
+ * memory reads these from the pictures' files again. */
+static uint8_t *bytes;
+static size_t room;
+
+/* Where each picture begins, and where the last one ends. */
+static size_t places[LSH_MOST_RECEIPTS + 1];
+
+/* The receipts of the pictures, end to end. */
+static uint8_t receipts[LSH_MOST_RECEIPTS][LSH_RECEIPT_BYTES];
+
+_Noreturn static void fail(const char *what, const char *why)
+{
+    fprintf(stderr, "order: %s: %s\n", what, why);
+    exit(EXIT_FAILURE);
+}
+
+/* Ends the program if a call was refused. After the tests of main only a picture that makes the order too long can do that. */
+static void must_be_accepted(uint32_t number, const char *call)
+{
+    if (number != LSH_ACCEPTED) {
+        char why[64];
+        snprintf(why, sizeof why, "refused with number %" PRIu32 " (see lsh_kiosk.h)", number);
+        fail(call, why);
+    }
+}
+
+/* Reads a file to the order's bytes from a place on, and gives the place after it. */
+static size_t read_file(const char *name, size_t place)
+{
+    FILE *file = fopen(name, "rb");
+    if (file == NULL) {
+        fail(name, strerror(errno));
+    }
+    for (;;) {
+        if (place == room) {
+            room = 2 * room + 65536;
+            bytes = realloc(bytes, room);
+            if (bytes == NULL) {
+                fail(name, "there is not enough memory for the order");
+            }
+        }
+        size_t got = fread(bytes + place, 1, room - place, file);
+        place += got;
+        if (got == 0) {
+            break;
+        }
+    }
+    if (ferror(file)) {
+        fail(name, strerror(errno));
+    }
+    fclose(file);
+    return place;
+}
+
+static void print_receipt(const uint8_t *receipt, const char *name)
+{
+    for (size_t i = 0; i < LSH_RECEIPT_BYTES; i++) {
+        printf("%02x", receipt[i]);
+    }
+    printf("  %s\n", name);
+}
+
+/* The receipt of the order. Its record is not changed, so the order may go on. */
+static void print_order(lsh_record order, const char *name)
+{
+    uint8_t receipt[LSH_RECEIPT_BYTES];
+    must_be_accepted(lsh_close(order, 0, 0, receipt, sizeof receipt), "lsh_close");
+    print_receipt(receipt, name);
+}
+
+/* The counts of the first pictures. */
+static void print_tally(size_t count)
+{
+    lsh_counts counts = lsh_tally(receipts[0], count * LSH_RECEIPT_BYTES);
+    must_be_accepted(counts.number, "lsh_tally");
+    printf("firsts %" PRIu64 " reprints %" PRIu64 "\n", counts.firsts, counts.reprints);
+}
+
+/* The order with the picture at a place added: the picture's receipt is made and printed, too. */
+static lsh_record add_picture(lsh_record order, size_t i, const char *name)
+{
+    const uint8_t *picture = bytes + places[i];
+    size_t length = places[i + 1] - places[i];
+    must_be_accepted(lsh_whole(WORD_SIZE, DIGEST_BITS, picture, length, 0, 0, receipts[i], LSH_RECEIPT_BYTES), "lsh_whole");
+    print_receipt(receipts[i], name);
+    lsh_outcome outcome = lsh_append(order, picture, length);
+    must_be_accepted(outcome.number, "lsh_append");
+    return outcome.next;
+}
+
+/* The order cut to its first `length` bytes. */
+static lsh_record cut_order(lsh_record order, size_t length)
+{
+    /* A block begins at each multiple of a block's bytes. The order is handed back from where the block begins that the cut lies in, and
+     * the bytes of this block before the cut are kept. */
+    size_t keep = length % LSH_BLOCK_BYTES(order.w);
+    size_t from = length - keep;
+    lsh_outcome outcome = lsh_rewind(order, keep, bytes + from, order.total - from);
+    must_be_accepted(outcome.number, "lsh_rewind");
+    return outcome.next;
+}
+
+int main(int argc, char **argv)
+{
+    if (argc < 2) {
+        fprintf(stderr, "usage: order FILE...\n");
+        return EXIT_FAILURE;
+    }
+    size_t count = (size_t)argc - 1;
+    if (count > LSH_MOST_RECEIPTS) {
+        fail("the pictures", "too many for one tally");
+    }
+    for (size_t i = 0; i < count; i++) {
+        places[i + 1] = read_file(argv[i + 1], places[i]);
+    }
+
+    lsh_outcome opened = lsh_open(WORD_SIZE, DIGEST_BITS);
+    must_be_accepted(opened.number, "lsh_open");
+    lsh_record order = opened.next;
+    for (size_t i = 0; i < count; i++) {
+        order = add_picture(order, i, argv[i + 1]);
+    }
+    print_order(order, "the order");
+    print_tally(count);
+
+    order = cut_order(order, places[count - 1]);
+    print_order(order, "the order without its last picture");
+    print_tally(count - 1);
+
+    if (fflush(stdout) != 0) {
+        fail("the output", strerror(errno));
+    }
+    return EXIT_SUCCESS;
+}

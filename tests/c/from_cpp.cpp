@@ -1,0 +1,33 @@
+// Includes the header and makes each call from C++: an order of two pieces, the second of which is dropped again.
+#include "lsh_kiosk.h"
+
+#include <cstdio>
+#include <cstring>
+
+int main()
+{
+    const uint8_t bytes[3] = {'a', 'b', 'c'};
+    const lsh_outcome opened = lsh_open(32, 256);
+    const lsh_outcome first = lsh_append(opened.next, bytes, 1);
+    const lsh_outcome both = lsh_append(first.next, bytes + 1, 2);
+    const lsh_outcome dropped = lsh_rewind(both.next, 1, bytes, 3);
+
+    uint8_t receipts[2 * LSH_RECEIPT_BYTES];
+    uint8_t *const second = receipts + LSH_RECEIPT_BYTES;
+    bool good = lsh_close(dropped.next, 0, 0, receipts, LSH_RECEIPT_BYTES) == LSH_ACCEPTED
+        && lsh_whole(32, 256, bytes, 1, 0, 0, second, LSH_RECEIPT_BYTES) == LSH_ACCEPTED;
+    const lsh_sameness sameness = lsh_same(receipts, LSH_RECEIPT_BYTES, second, LSH_RECEIPT_BYTES);
+    const lsh_counts counts = lsh_tally(receipts, sizeof receipts);
+
+    uint8_t chain[LSH_CHAIN_BYTES(32)] = {}, block[LSH_BLOCK_BYTES(32)] = {};
+    const uint8_t zeros[sizeof chain] = {};
+    good = good && lsh_block_forward(32, chain, sizeof chain, block, sizeof block) == LSH_ACCEPTED
+        && lsh_block_backward(32, chain, sizeof chain, block, sizeof block) == LSH_ACCEPTED
+        && std::memcmp(chain, zeros, sizeof chain) == 0;
+
+    good = good && dropped.number == LSH_ACCEPTED && dropped.next.total == 1
+        && std::memcmp(&dropped.next, &first.next, sizeof first.next) == 0 && sameness.number == LSH_ACCEPTED && sameness.same
+        && counts.number == LSH_ACCEPTED && counts.firsts == 1 && counts.reprints == 1;
+    std::puts(good ? "from_cpp: all calls passed" : "from_cpp: FAILED");
+    return good ? 0 : 1;
+}

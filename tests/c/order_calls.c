@@ -1,0 +1,388 @@
+/* Calls lsh_open, lsh_append, lsh_rewind and lsh_close as a driver written in C does, with right and with wrong arguments, on records
+ * of orders, on records that are sound and of no order, and on wrong ones.
+ * After each call it checks the whole answer against order_model.h, that the record given and the bytes lent are as they were, and the guard
+ * bytes around the buffers and around the answer.
+ * It prints how many checks passed, or each that failed; the exit status is 0 only if all passed. */
+#include <inttypes.h>
+#include <stdbool.h>
+#include <stdio.h>
+#include <string.h>
+
+#include "lsh_kiosk.h"
+
+#define PROGRAM "order_calls"
+#define LARGEST (6 * LSH_BLOCK_BYTES(64))
+#include "checks.h"
+#include "order_model.h"
+
+#define ORDERS 300 /* random orders at each word size, and random records */
+#define CALLS 40   /* in each order */
+
+/* ---- calls ---- */
+
+#define ANSWER_GUARD 0xc3
+
+/* An answer between guard bytes. */
+struct guarded_outcome {
+    uint8_t before[GUARD];
+    lsh_outcome outcome;
+    uint8_t after[GUARD];
+};
+
+static void guard_answer(struct guarded_outcome *answer)
+{
+    memset(answer, ANSWER_GUARD, sizeof *answer);
+}
+
+static void check_outcome(const struct guarded_outcome *answer, const lsh_outcome *right, const char *said)
+{
+    const lsh_outcome *outcome = &answer->outcome;
+    uint8_t guard[GUARD];
+    memset(guard, ANSWER_GUARD, sizeof guard);
+    check(outcome->number == right->number, "%s answers %" PRIu32 ", not %" PRIu32, said, outcome->number, right->number);
+    check(outcome->count == right->count, "%s counts %" PRIu64 " blocks, not %" PRIu64, said, outcome->count, right->count);
+    check(memcmp(&outcome->next, &right->next, sizeof right->next) == 0, "%s returns another record", said);
+    check(memcmp(answer->before, guard, GUARD) == 0 && memcmp(answer->after, guard, GUARD) == 0,
+          "%s writes outside its answer", said);
+}
+
+static lsh_record open_order(uint64_t w, uint64_t n)
+{
+    char said[80];
+    snprintf(said, sizeof said, "lsh_open(w = %" PRIu64 ", n = %" PRIu64 ")", w, n);
+    lsh_outcome right = right_open(w, n);
+    struct guarded_outcome answer;
+    guard_answer(&answer);
+    answer.outcome = lsh_open(w, n);
+    check_outcome(&answer, &right, said);
+    return answer.outcome.next;
+}
+
+/* Says what is tried on a record. */
+#define SAY(said, call, r, format, ...) \
+    snprintf(said, sizeof said, call "(w = %" PRIu64 ", n = %" PRIu64 ", total = %" PRIu64 ", " format ")", (r)->w, (r)->n, (r)->total, __VA_ARGS__)
+
+/* A piece may be said to be longer than its memory if the call has to be refused: a refused call reads nothing of it. */
+static lsh_record append(const lsh_record *r, struct guarded *lent, size_t from, size_t piece_len)
+{
+    char said[200];
+    SAY(said, "lsh_append", r, "%zu bytes", piece_len);
+    const uint8_t *piece = buffer(lent) + from;
+    lsh_outcome right = right_append(r, piece, piece_len);
+    lsh_record given = *r;
+    struct guarded_outcome answer;
+    guard_answer(&answer);
+    take_copy(lent);
+    answer.outcome = lsh_append(given, piece, piece_len);
+    check_outcome(&answer, &right, said);
+    check(memcmp(&given, r, sizeof given) == 0, "%s changes the record given", said);
+    check(kept_except(lent, 0), "%s writes to the piece or around it", said);
+    return answer.outcome.next;
+}
+
+static lsh_record rewind_order(const lsh_record *r, uint64_t keep, struct guarded *lent, size_t from, size_t h_len)
+{
+    char said[200];
+    SAY(said, "lsh_rewind", r, "keep = %" PRIu64 ", %zu bytes", keep, h_len);
+    const uint8_t *h = buffer(lent) + from;
+    lsh_outcome right = right_rewind(r, keep, h, h_len);
+    lsh_record given = *r;
+    struct guarded_outcome answer;
+    guard_answer(&answer);
+    take_copy(lent);
+    answer.outcome = lsh_rewind(given, keep, h, h_len);
+    check_outcome(&answer, &right, said);
+    check(memcmp(&given, r, sizeof given) == 0, "%s changes the record given", said);
+    check(kept_except(lent, 0), "%s writes to the bytes handed back or around them", said);
+    return answer.outcome.next;
+}
+
+static void close_order(const lsh_record *r, uint8_t last, uint64_t e, struct guarded *output, size_t output_len)
+{
+    char said[200];
+    SAY(said, "lsh_close", r, "last = %u, e = %" PRIu64 ", output of %zu bytes", last, e, output_len);
+    uint32_t right = right_close_answer(r, last, e, output_len);
+    lsh_record given = *r;
+    take_copy(output);
+    uint32_t answer = lsh_close(given, last, e, buffer(output), output_len);
+    check(answer == right, "%s answers %" PRIu32 ", not %" PRIu32, said, answer, right);
+    check(memcmp(&given, r, sizeof given) == 0, "%s changes the record given", said);
+    check(kept_except(output, right == LSH_ACCEPTED ? LSH_RECEIPT_BYTES : 0), "%s writes %s", said,
+          right == LSH_ACCEPTED ? "outside the receipt" : "to the output or around it");
+    if (right == LSH_ACCEPTED) {
+        uint8_t receipt[LSH_RECEIPT_BYTES];
+        right_receipt(r, last, e, receipt);
+        check(memcmp(buffer(output), receipt, sizeof receipt) == 0, "%s writes another receipt", said);
+    }
+}
+
+/* ---- what is tried: orders ---- */
+
+static size_t below(size_t limit)
+{
+    return (size_t)(next_random() % limit);
+}
+
+/* The receipt of the order is that of its bytes as one message. */
+static void close_as_whole(const lsh_record *r, struct guarded *lent)
+{
+    uint64_t e = below(8);
+    uint8_t last = (uint8_t)(next_random() & ~(uint64_t)low_bits(e));
+    struct guarded output;
+    fill(&output);
+    close_order(r, last, e, &output, LSH_RECEIPT_BYTES + below(LARGEST - LSH_RECEIPT_BYTES));
+    uint8_t receipt[LSH_RECEIPT_BYTES];
+    check(lsh_whole(r->w, r->n, buffer(lent), r->total, last, e, receipt, sizeof receipt) == LSH_ACCEPTED
+              && memcmp(buffer(&output), receipt, sizeof receipt) == 0,
+          "lsh_close and lsh_whole write two receipts of one order of %" PRIu64 " bytes", r->total);
+}
+
+/* Cuts an order at a place: h from the block on that the cut lies in. */
+static lsh_record cut(const lsh_record *r, struct guarded *lent, size_t length)
+{
+    size_t keep = length % LSH_BLOCK_BYTES(r->w);
+    return rewind_order(r, keep, lent, length - keep, r->total - (length - keep));
+}
+
+/* An order's bytes stand at the front of a buffer; a random piece is appended, or the order is cut anywhere. */
+static void try_order(uint64_t w)
+{
+    struct guarded lent;
+    fill(&lent);
+    lsh_record r = open_order(w, 1 + below(8 * w));
+    for (int i = 0; i < CALLS; i++) {
+        size_t total = r.total;
+        if (below(3) != 0) {
+            size_t room = LARGEST - total;
+            size_t piece_len = below((room < 3 * LSH_BLOCK_BYTES(w) ? room : 3 * LSH_BLOCK_BYTES(w)) + 1);
+            r = append(&r, &lent, total, piece_len);
+            check(r.total == total + piece_len, "an order of %zu bytes and %zu more has %" PRIu64, total, piece_len, r.total);
+        } else {
+            size_t length = below(total + 1);
+            r = cut(&r, &lent, length);
+            check(r.total == length, "an order of %zu bytes cut to %zu has %" PRIu64, total, length, r.total);
+        }
+        close_as_whole(&r, &lent);
+    }
+}
+
+/* ---- what is tried: any sound record ---- */
+
+/* A sound record, of no order most likely, with a total of at least `least` bytes and at most the limit. */
+static lsh_record random_record(uint64_t w, uint64_t least)
+{
+    lsh_record r = {.w = w, .n = 1 + below(8 * w), .total = least + next_random() % (LSH_MOST_BYTES - least + 1)};
+    for (size_t i = 0; i < 16; i++) {
+        r.chain[i] = w == 32 ? next_random() >> 32 : next_random();
+    }
+    for (size_t i = 0; i < r.total % LSH_BLOCK_BYTES(w); i++) {
+        r.held[i] = (uint8_t)next_random();
+    }
+    return r;
+}
+
+/* The held bytes at the end of some blocks, so that a rewind is not refused by them. */
+static void try_random_record(uint64_t w)
+{
+    struct guarded lent, output;
+    fill(&lent);
+    fill(&output);
+    lsh_record r = random_record(w, LARGEST);
+    size_t held = r.total % LSH_BLOCK_BYTES(w);
+    size_t h_len = below(4) * LSH_BLOCK_BYTES(w) + held;
+    memcpy(buffer(&lent) + h_len - held, r.held, held);
+    uint64_t e = below(8);
+    append(&r, &lent, 0, below(LARGEST));
+    rewind_order(&r, below((h_len < LSH_BLOCK_BYTES(w) ? h_len : LSH_BLOCK_BYTES(w) - 1) + 1), &lent, 0, h_len);
+    close_order(&r, (uint8_t)(next_random() & ~(uint64_t)low_bits(e)), e, &output, LSH_RECEIPT_BYTES);
+}
+
+/* Nothing but the held bytes is handed back, and nothing is left before them: only the opening chain is taken. */
+static void try_foreign_chain(uint64_t w)
+{
+    struct guarded lent;
+    fill(&lent);
+    for (size_t total = 0; total < LSH_BLOCK_BYTES(w); total++) {
+        lsh_record r = right_open(w, 1 + below(8 * w)).next;
+        r.total = total;
+        memcpy(r.held, buffer(&lent), total);
+        rewind_order(&r, 0, &lent, 0, total);
+        r.chain[below(16)] ^= 1;
+        rewind_order(&r, 0, &lent, 0, total);
+    }
+}
+
+/* ---- what is tried: wrong records ---- */
+
+/* All calls on a record: each refuses an unsound one before it looks at anything else. */
+static void try_record(const lsh_record *r)
+{
+    struct guarded lent, output;
+    fill(&lent);
+    fill(&output);
+    append(r, &lent, 0, 0);
+    append(r, &lent, 0, LSH_BLOCK_BYTES(64) + 1);
+    rewind_order(r, 0, &lent, 0, 0);
+    rewind_order(r, UINT64_MAX, &lent, 0, 1);
+    close_order(r, 0, 0, &output, LSH_RECEIPT_BYTES);
+    close_order(r, 0xff, UINT64_MAX, &output, 0);
+    if (!is_sound(r)) {
+        append(r, &lent, 0, SIZE_MAX);
+        rewind_order(r, 0, &lent, 0, SIZE_MAX);
+    }
+}
+
+static const uint64_t tried_word_sizes[] = {
+    0, 1, 16, 31, 32, 33, 63, 64, 65, 128, 256 + 32, TWO_TO_32 + 32, TWO_TO_32 + 64, TWO_TO_63 + 32, TWO_TO_63 + 64,
+    UINT64_MAX,
+};
+static const uint64_t tried_digest_lengths[] = {
+    0, 1, 7, 8, 224, 255, 256, 257, 511, 512, 513, TWO_TO_16 + 256, TWO_TO_32, TWO_TO_32 + 256, TWO_TO_63,
+    TWO_TO_63 + 256, UINT64_MAX,
+};
+static const uint64_t tried_totals[] = {
+    0, LSH_MOST_BYTES - 256, LSH_MOST_BYTES, LSH_MOST_BYTES + 256, 2 * LSH_MOST_BYTES, TWO_TO_63, UINT64_MAX - 255,
+};
+
+/* A record of zeros, every word size with every digest length, totals about the limit, each chain word too large by little and by much, and
+ * each of the 256 held places set. Sound ones are among them. */
+static void try_wrong_records(uint64_t w)
+{
+    const lsh_record no_record = {0};
+    try_record(&no_record);
+    lsh_record sound = random_record(w, LARGEST);
+    try_record(&sound);
+    for (size_t i = 0; i < COUNT(tried_totals); i++) {
+        lsh_record r = right_open(w, 8 * w).next;
+        r.total = tried_totals[i];
+        try_record(&r);
+    }
+    for (size_t i = 0; i < 16; i++) {
+        lsh_record r = sound;
+        r.chain[i] = TWO_TO_32 - 1;
+        try_record(&r);
+        r.chain[i] = TWO_TO_32;
+        try_record(&r);
+        r.chain[i] = UINT64_MAX;
+        try_record(&r);
+    }
+    for (size_t i = 0; i < sizeof sound.held; i++) {
+        lsh_record r = sound;
+        r.held[i] ^= (uint8_t)(1u << below(8));
+        try_record(&r);
+    }
+}
+
+/* At Open, and in a record. */
+static void try_word_sizes_and_digest_lengths(void)
+{
+    for (size_t w = 0; w < COUNT(tried_word_sizes); w++) {
+        for (size_t n = 0; n < COUNT(tried_digest_lengths); n++) {
+            open_order(tried_word_sizes[w], tried_digest_lengths[n]);
+            lsh_record r = {.w = tried_word_sizes[w], .n = tried_digest_lengths[n]};
+            try_record(&r);
+        }
+    }
+}
+
+/* ---- what is tried: limits ---- */
+
+/* The limit is reached and not passed, by pieces of any length. */
+static void try_limit(uint64_t w)
+{
+    static const size_t beyond[] = {TWO_TO_32, LSH_MOST_BYTES, TWO_TO_63, SIZE_MAX - LSH_MOST_BYTES + 1, SIZE_MAX};
+    struct guarded lent;
+    fill(&lent);
+    for (size_t left = 0; left < LARGEST; left += 1 + below(50)) {
+        lsh_record r = random_record(w, LSH_MOST_BYTES);
+        r.total = LSH_MOST_BYTES - left;
+        memcpy(r.held, buffer(&lent), r.total % LSH_BLOCK_BYTES(w));
+        append(&r, &lent, 0, left);
+        append(&r, &lent, 0, left + 1);
+        for (size_t i = 0; i < COUNT(beyond); i++) {
+            append(&r, &lent, 0, beyond[i]);
+        }
+    }
+}
+
+/* ---- what is tried: the lengths of a rewind, and the end of a message ---- */
+
+static void try_rewind_lengths(uint64_t w)
+{
+    static const uint64_t keeps[] = {
+        0, 1, 44, 127, 128, 129, 255, 256, 257, TWO_TO_32, TWO_TO_32 + 1, TWO_TO_63, UINT64_MAX,
+    };
+    struct guarded lent;
+    fill(&lent);
+    const lsh_record opened = right_open(w, 8 * w).next;
+    for (size_t total = 0; total <= 2 * LSH_BLOCK_BYTES(w) + 2; total += 1 + below(20)) {
+        lsh_record r = append(&opened, &lent, 0, total);
+        for (size_t k = 0; k < COUNT(keeps); k++) {
+            for (size_t h_len = 0; h_len <= total; h_len++) {
+                rewind_order(&r, keeps[k], &lent, total - h_len, h_len);
+            }
+            rewind_order(&r, keeps[k], &lent, 0, total + 1);
+            rewind_order(&r, keeps[k], &lent, 0, TWO_TO_32 + total);
+            rewind_order(&r, keeps[k], &lent, 0, SIZE_MAX);
+        }
+    }
+}
+
+/* Each byte of an order changed: a held one is found, and one of a whole block is found where nothing is left before it. */
+static void try_changed_bytes(uint64_t w)
+{
+    struct guarded lent;
+    fill(&lent);
+    const lsh_record opened = right_open(w, 8 * w).next;
+    size_t total = 2 * LSH_BLOCK_BYTES(w) + 44;
+    lsh_record r = append(&opened, &lent, 0, total);
+    for (size_t i = 0; i < total; i++) {
+        uint8_t bit = (uint8_t)(1u << below(8));
+        buffer(&lent)[i] ^= bit;
+        for (size_t from = 0; from <= i; from += LSH_BLOCK_BYTES(w)) {
+            rewind_order(&r, 0, &lent, from, total - from);
+        }
+        buffer(&lent)[i] ^= bit;
+    }
+}
+
+static void try_ends(uint64_t w)
+{
+    static const uint64_t extra_bits[] = {
+        0, 1, 2, 3, 4, 5, 6, 7, 8, 9, 256, TWO_TO_32, TWO_TO_32 + 4, TWO_TO_63, UINT64_MAX,
+    };
+    static const size_t output_lengths[] = {
+        0, 1, LSH_RECEIPT_BYTES - 1, LSH_RECEIPT_BYTES, LSH_RECEIPT_BYTES + 1, LARGEST,
+    };
+    struct guarded output;
+    for (size_t e = 0; e < COUNT(extra_bits); e++) {
+        for (unsigned last = 0; last <= 0xff; last++) {
+            for (size_t o = 0; o < COUNT(output_lengths); o++) {
+                lsh_record r = random_record(w, 0);
+                fill(&output);
+                close_order(&r, (uint8_t)last, extra_bits[e], &output, output_lengths[o]);
+            }
+        }
+    }
+}
+
+int main(void)
+{
+    try_word_sizes_and_digest_lengths();
+    for (uint64_t w = 32; w <= 64; w += 32) {
+        for (uint64_t n = 1; n <= 8 * w; n++) {
+            open_order(w, n);
+        }
+        for (int i = 0; i < ORDERS; i++) {
+            try_order(w);
+            try_random_record(w);
+        }
+        try_foreign_chain(w);
+        try_wrong_records(w);
+        try_limit(w);
+        try_rewind_lengths(w);
+        try_changed_bytes(w);
+        try_ends(w);
+    }
+    return report();
+}

@@ -1,0 +1,159 @@
+/* What the calls on an order have to answer, written from document 01 in the plainest way, byte by byte, over the two block calls alone. */
+#ifndef ORDER_MODEL_H
+#define ORDER_MODEL_H
+
+#include <stdbool.h>
+#include <stdint.h>
+#include <string.h>
+
+#include "lsh_kiosk.h"
+
+static bool is_sound(const lsh_record *r)
+{
+    if ((r->w != 32 && r->w != 64) || r->n == 0 || r->n > 8 * r->w || r->total > LSH_MOST_BYTES) {
+        return false;
+    }
+    for (size_t i = 0; i < 16; i++) {
+        if (r->w == 32 && r->chain[i] >> 32 != 0) {
+            return false;
+        }
+    }
+    for (size_t i = r->total % LSH_BLOCK_BYTES(r->w); i < sizeof r->held; i++) {
+        if (r->held[i] != 0) {
+            return false;
+        }
+    }
+    return true;
+}
+
+static lsh_outcome refused(uint32_t number, const lsh_record *r)
+{
+    lsh_outcome outcome = {number, 0, *r};
+    return outcome;
+}
+
+typedef uint32_t block_call(uint64_t w, uint8_t *chain, size_t chain_len, const uint8_t *block, size_t block_len);
+
+/* Runs one block on the chain of a record. */
+static void run_block(block_call *call, lsh_record *r, const uint8_t *block)
+{
+    uint8_t chain[LSH_CHAIN_BYTES(64)];
+    size_t word = r->w / 8;
+    for (size_t i = 0; i < 16 * word; i++) {
+        chain[i] = (uint8_t)(r->chain[i / word] >> 8 * (i % word));
+    }
+    call(r->w, chain, 16 * word, block, LSH_BLOCK_BYTES(r->w));
+    memset(r->chain, 0, sizeof r->chain);
+    for (size_t i = 0; i < 16 * word; i++) {
+        r->chain[i / word] |= (uint64_t)chain[i] << 8 * (i % word);
+    }
+}
+
+static lsh_outcome right_open(uint64_t w, uint64_t n)
+{
+    static const uint8_t zeros[LSH_BLOCK_BYTES(64)];
+    static const lsh_record no_record;
+    if (w != 32 && w != 64) {
+        return refused(LSH_BAD_WORD_SIZE, &no_record);
+    }
+    if (n == 0 || n > 8 * w) {
+        return refused(LSH_BAD_DIGEST_LENGTH, &no_record);
+    }
+    lsh_outcome outcome = {LSH_ACCEPTED, 0, {.w = w, .n = n, .chain = {w, n}}};
+    run_block(lsh_block_forward, &outcome.next, zeros);
+    return outcome;
+}
+
+static lsh_outcome right_append(const lsh_record *r, const uint8_t *piece, size_t piece_len)
+{
+    if (!is_sound(r)) {
+        return refused(LSH_UNSOUND_RECORD, r);
+    }
+    if (piece_len > LSH_MOST_BYTES - r->total) {
+        return refused(LSH_TOO_LONG, r);
+    }
+    lsh_outcome outcome = {LSH_ACCEPTED, 0, *r};
+    lsh_record *next = &outcome.next;
+    size_t block = LSH_BLOCK_BYTES(r->w);
+    for (size_t i = 0; i < piece_len; i++) {
+        next->held[next->total % block] = piece[i];
+        next->total++;
+        if (next->total % block == 0) {
+            run_block(lsh_block_forward, next, next->held);
+            memset(next->held, 0, sizeof next->held);
+            outcome.count++;
+        }
+    }
+    return outcome;
+}
+
+static lsh_outcome right_rewind(const lsh_record *r, uint64_t keep, const uint8_t *h, size_t h_len)
+{
+    if (!is_sound(r)) {
+        return refused(LSH_UNSOUND_RECORD, r);
+    }
+    size_t block = LSH_BLOCK_BYTES(r->w);
+    size_t held = r->total % block;
+    if (h_len > r->total || (r->total - h_len) % block != 0) {
+        return refused(LSH_BAD_START, r);
+    }
+    if (keep > h_len || keep >= block) {
+        return refused(LSH_BAD_KEEP, r);
+    }
+    if (memcmp(h + h_len - held, r->held, held) != 0) {
+        return refused(LSH_HELD_DIFFER, r);
+    }
+    lsh_outcome outcome = {LSH_ACCEPTED, 0, *r};
+    lsh_record *next = &outcome.next;
+    for (size_t end = h_len - held; end > 0; end -= block) {
+        run_block(lsh_block_backward, next, h + end - block);
+        outcome.count++;
+    }
+    if (h_len == r->total) {
+        lsh_outcome opened = right_open(r->w, r->n);
+        if (memcmp(next->chain, opened.next.chain, sizeof next->chain) != 0) {
+            return refused(LSH_OPENING_DIFFERS, r);
+        }
+    }
+    next->total = r->total - h_len + keep;
+    memset(next->held, 0, sizeof next->held);
+    memcpy(next->held, h, keep);
+    return outcome;
+}
+
+static uint32_t right_close_answer(const lsh_record *r, uint8_t last, uint64_t e, size_t output_len)
+{
+    if (!is_sound(r)) {
+        return LSH_UNSOUND_RECORD;
+    }
+    if (e > 7) {
+        return LSH_BAD_EXTRA_BITS;
+    }
+    if ((last & 0xffu >> e) != 0) {
+        return LSH_BAD_LAST_BYTE;
+    }
+    if (output_len < LSH_RECEIPT_BYTES) {
+        return LSH_SHORT_OUTPUT;
+    }
+    return LSH_ACCEPTED;
+}
+
+/* The receipt that an accepted Close writes. */
+static void right_receipt(const lsh_record *r, uint8_t last, uint64_t e, uint8_t *receipt)
+{
+    lsh_record end = *r;
+    end.held[r->total % LSH_BLOCK_BYTES(r->w)] = (uint8_t)(last | 0x80u >> e);
+    run_block(lsh_block_forward, &end, end.held);
+
+    const uint8_t first[4] = {(uint8_t)r->w, 0, (uint8_t)r->n, (uint8_t)(r->n >> 8)};
+    size_t word = r->w / 8;
+    memset(receipt, 0, LSH_RECEIPT_BYTES);
+    memcpy(receipt, first, sizeof first);
+    for (size_t bit = 0; bit < r->n; bit++) {
+        size_t i = bit / 8;
+        uint64_t xor = end.chain[i / word] ^ end.chain[i / word + 8];
+        receipt[sizeof first + i] |= (uint8_t)(xor >> 8 * (i % word)) & (uint8_t)(0x80u >> bit % 8);
+    }
+}
+
+#endif
