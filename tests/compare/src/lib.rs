@@ -1,4 +1,4 @@
-//! The module's calls for C as safe Rust functions, the program replay for the others, and random bytes to try them on.
+//! The module's calls for C as safe Rust functions, the program replay, and random bytes to try them on.
 //!
 //! Each call is declared and wrapped here alone. Nothing checks the declarations against the module: they repeat those
 //! of `include/lsh_kiosk.h`.
@@ -15,10 +15,54 @@ pub const BAD_LENGTH: u32 = 4;
 /// Bytes of a receipt.
 pub const RECEIPT_BYTES: usize = 68;
 
+/// The record of an order.
+#[repr(C)]
+#[derive(Clone, Copy, PartialEq, Eq, Debug)]
+pub struct Record {
+    pub w: u64,
+    pub n: u64,
+    pub total: u64,
+    pub chain: [u64; 16],
+    pub held: [u8; 256],
+}
+
+/// The answer to a call on an order.
+#[repr(C)]
+#[derive(Clone, Copy, PartialEq, Eq, Debug)]
+pub struct Outcome {
+    pub number: u32,
+    pub count: u64,
+    pub next: Record,
+}
+
+/// The answer to Same.
+#[repr(C)]
+#[derive(Clone, Copy, PartialEq, Eq, Debug)]
+pub struct Sameness {
+    pub number: u32,
+    pub same: bool,
+}
+
+/// The answer to Tally.
+#[repr(C)]
+#[derive(Clone, Copy, PartialEq, Eq, Debug)]
+pub struct Counts {
+    pub number: u32,
+    pub place: u64,
+    pub firsts: u64,
+    pub reprints: u64,
+}
+
 mod c {
+    use super::{Counts, Outcome, Record, Sameness};
+
     extern "C" {
         pub fn lsh_block_forward(w: u64, chain: *mut u8, chain_len: usize, block: *const u8, block_len: usize) -> u32;
         pub fn lsh_block_backward(w: u64, chain: *mut u8, chain_len: usize, block: *const u8, block_len: usize) -> u32;
+        pub fn lsh_open(w: u64, n: u64) -> Outcome;
+        pub fn lsh_append(r: Record, piece: *const u8, piece_len: usize) -> Outcome;
+        pub fn lsh_rewind(r: Record, keep: u64, h: *const u8, h_len: usize) -> Outcome;
+        pub fn lsh_close(r: Record, last: u8, e: u64, output: *mut u8, output_len: usize) -> u32;
         pub fn lsh_whole(
             w: u64,
             n: u64,
@@ -29,6 +73,8 @@ mod c {
             output: *mut u8,
             output_len: usize,
         ) -> u32;
+        pub fn lsh_same(a: *const u8, a_len: usize, b: *const u8, b_len: usize) -> Sameness;
+        pub fn lsh_tally(list: *const u8, list_len: usize) -> Counts;
     }
 }
 
@@ -45,10 +91,46 @@ pub fn block_backward(w: u64, chain: &mut [u8], block: &[u8]) -> u32 {
     unsafe { c::lsh_block_backward(w, chain.as_mut_ptr(), chain.len(), block.as_ptr(), block.len()) }
 }
 
+/// Begins an order.
+pub fn open(w: u64, n: u64) -> Outcome {
+    // SAFETY: the call takes two numbers and asks nothing of them.
+    unsafe { c::lsh_open(w, n) }
+}
+
+/// Adds a piece to the end of an order.
+pub fn append(r: Record, piece: &[u8]) -> Outcome {
+    // SAFETY: as in `block_forward`; the record passes by value.
+    unsafe { c::lsh_append(r, piece.as_ptr(), piece.len()) }
+}
+
+/// Takes the bytes h off the end of an order, but for the first keep of them.
+pub fn rewind(r: Record, keep: u64, h: &[u8]) -> Outcome {
+    // SAFETY: as in `append`.
+    unsafe { c::lsh_rewind(r, keep, h.as_ptr(), h.len()) }
+}
+
+/// Writes the receipt of an order: its bytes, and then the top e bits of `last`.
+pub fn close(r: Record, last: u8, e: u64, output: &mut [u8]) -> u32 {
+    // SAFETY: as in `append`.
+    unsafe { c::lsh_close(r, last, e, output.as_mut_ptr(), output.len()) }
+}
+
 /// Writes the receipt of a message: its bytes, and then the top e bits of `last`.
 pub fn whole(w: u64, n: u64, message: &[u8], last: u8, e: u64, output: &mut [u8]) -> u32 {
     // SAFETY: as in `block_forward`.
     unsafe { c::lsh_whole(w, n, message.as_ptr(), message.len(), last, e, output.as_mut_ptr(), output.len()) }
+}
+
+/// Tells whether two receipts are the same.
+pub fn same(a: &[u8], b: &[u8]) -> Sameness {
+    // SAFETY: as in `block_forward`.
+    unsafe { c::lsh_same(a.as_ptr(), a.len(), b.as_ptr(), b.len()) }
+}
+
+/// Counts a list of receipts.
+pub fn tally(list: &[u8]) -> Counts {
+    // SAFETY: as in `block_forward`.
+    unsafe { c::lsh_tally(list.as_ptr(), list.len()) }
 }
 
 /// Random bytes (splitmix64), the same in every run, so that a failure can be repeated.

@@ -1,4 +1,4 @@
-//! The program replay, for the calls that C does not have.
+//! The program replay, which makes the calls of a script.
 
 use std::env;
 use std::fmt::Write as _;

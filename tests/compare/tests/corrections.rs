@@ -1,6 +1,7 @@
-//! Lists of Append and Rewind calls against document 01's plain tape, written here, and against lsh_ref.
+//! Lists of Append and Rewind calls against document 01's plain tape, written here, and against lsh_ref: each list through the
+//! archive's calls, and once more through the program replay.
 
-use compare::{hex, replay, Random};
+use compare::{hex, replay, Outcome, Random, Record, ACCEPTED, RECEIPT_BYTES};
 use lsh_ref::Word;
 
 /// The most bytes of an order.
@@ -45,9 +46,11 @@ impl Tape {
     }
 }
 
-/// A list of calls as it is made: the script, and the answers that the tape gives.
+/// A list of calls as it is made: the tape, the record that the archive's calls keep, and the script for replay with the answers that the
+/// tape gives.
 struct List<'a> {
     tape: Tape,
+    record: Record,
     script: String,
     expected: Vec<String>,
     forward: usize,
@@ -57,21 +60,33 @@ struct List<'a> {
 
 impl List<'_> {
     fn append(&mut self, piece: &[u8]) {
-        let Answer { number, count } = self.tape.append(piece);
-        self.forward += count;
-        self.call(format!("append {}", hex(piece)), format!("append {number} {count}"));
+        let answer = self.tape.append(piece);
+        self.forward += answer.count;
+        self.take(compare::append(self.record, piece), answer);
+        self.call(format!("append {}", hex(piece)), format!("append {} {}", answer.number, answer.count));
     }
 
     /// Hands back the last bytes of the tape, as many as `size`.
     fn rewind(&mut self, keep: u64, size: usize) {
         let h = self.tape.bytes[self.tape.bytes.len() - size..].to_vec();
-        let Answer { number, count } = self.tape.rewind(keep, size);
-        self.backward += count;
-        self.rewind_call(keep, &h, number, count);
+        let answer = self.tape.rewind(keep, size);
+        self.backward += answer.count;
+        self.rewind_call(keep, &h, answer);
     }
 
-    fn rewind_call(&mut self, keep: u64, h: &[u8], number: u32, count: usize) {
-        self.call(format!("rewind {keep} {}", hex(h)), format!("rewind {number} {count}"));
+    fn rewind_call(&mut self, keep: u64, h: &[u8], answer: Answer) {
+        self.take(compare::rewind(self.record, keep, h), answer);
+        self.call(format!("rewind {keep} {}", hex(h)), format!("rewind {} {}", answer.number, answer.count));
+    }
+
+    /// Takes what a call of the archive gives, which has this answer. A refused call returns the record as it came.
+    fn take(&mut self, outcome: Outcome, answer: Answer) {
+        assert_eq!(Answer { number: outcome.number, count: outcome.count as usize }, answer);
+        assert!(
+            answer.number == ACCEPTED || outcome.next == self.record,
+            "refused with {answer:?}, and another record"
+        );
+        self.record = outcome.next;
     }
 
     fn call(&mut self, line: String, answer: String) {
@@ -117,8 +132,8 @@ impl List<'_> {
             // Longer than the order.
             0 => {
                 let h = self.random.bytes(self.tape.bytes.len() + 1);
-                let Answer { number, count } = self.tape.rewind(0, h.len());
-                self.rewind_call(0, &h, number, count);
+                let answer = self.tape.rewind(0, h.len());
+                self.rewind_call(0, &h, answer);
             }
             // Not from a block on, mostly.
             1 => {
@@ -147,7 +162,7 @@ impl List<'_> {
         let mut h = self.tape.bytes[self.tape.bytes.len() - size..].to_vec();
         let place = size - 1 - self.below(held);
         h[place] ^= 1 << self.below(8);
-        self.rewind_call(0, &h, 8, 0);
+        self.rewind_call(0, &h, Answer { number: 8, count: 0 });
     }
 
     /// 9: the whole order is handed back, and one byte of its whole blocks is another.
@@ -159,38 +174,49 @@ impl List<'_> {
         let mut h = self.tape.bytes.clone();
         let place = self.below(whole);
         h[place] ^= 1 << self.below(8);
-        self.rewind_call(0, &h, 9, 0);
+        self.rewind_call(0, &h, Answer { number: 9, count: 0 });
     }
 }
 
-/// The line that shows the record of the bytes, by lsh_ref.
-fn record_line<W: Word>(n: u64, bytes: &[u8]) -> String {
+/// The record of the bytes, by lsh_ref.
+fn record_of<W: Word>(n: u64, bytes: &[u8]) -> Record {
     let mut chain = lsh_ref::opening_chain::<W>(n);
     let blocks = bytes.chunks_exact(W::BLOCK_BYTES);
     let rest = blocks.remainder();
     for block in blocks {
         chain = lsh_ref::forward(&chain, block);
     }
-    let words: String = chain.iter().map(|word| format!("{:016x}", word.to_u64())).collect();
-    let mut held = rest.to_vec();
-    held.resize(256, 0);
-    format!("record {} {n} {} {words} {}", W::BITS, bytes.len(), hex(&held))
+    let mut held = [0; 256];
+    held[..rest.len()].copy_from_slice(rest);
+    Record { w: W::BITS as u64, n, total: bytes.len() as u64, chain: chain.map(|word| word.to_u64()), held }
 }
 
-/// The line that shows the receipt of the bytes and the top e bits of the last byte, by lsh_ref.
-fn close_line<W: Word>(n: u64, bytes: &[u8], last: u8, e: u32) -> String {
+/// The line that shows a record.
+fn record_line(r: &Record) -> String {
+    let words: String = r.chain.iter().map(|word| format!("{word:016x}")).collect();
+    format!("record {} {} {} {words} {}", r.w, r.n, r.total, hex(&r.held))
+}
+
+/// Two bytes more than a receipt, of which a Close leaves the last two.
+const UNTOUCHED: [u8; RECEIPT_BYTES + 2] = [0xa5; RECEIPT_BYTES + 2];
+
+/// Such bytes with the receipt of the bytes and the top e bits of the last byte at their front, by lsh_ref.
+fn with_receipt<W: Word>(n: u64, bytes: &[u8], last: u8, e: u64) -> Vec<u8> {
     let mut receipt = vec![W::BITS as u8, 0, n as u8, (n >> 8) as u8];
-    receipt.extend(lsh_ref::hash_bits::<W>(n, bytes, last, e));
-    receipt.resize(68, 0);
-    receipt.extend([0xa5; 2]);
-    format!("close 0 {}", hex(&receipt))
+    receipt.extend(lsh_ref::hash_bits::<W>(n, bytes, last, e as u32));
+    receipt.resize(RECEIPT_BYTES, 0);
+    receipt.extend(&UNTOUCHED[RECEIPT_BYTES..]);
+    receipt
 }
 
 /// A random list of calls, with the record and a receipt after it.
 fn compare_list<W: Word>(calls: usize, random: &mut Random) {
     let n = 1 + random.below(8 * W::BITS as u64);
+    let opened = compare::open(W::BITS as u64, n);
+    assert_eq!(opened, Outcome { number: ACCEPTED, count: 0, next: record_of::<W>(n, &[]) });
     let mut list = List {
         tape: Tape { block: W::BLOCK_BYTES, bytes: Vec::new() },
+        record: opened.next,
         script: String::new(),
         expected: Vec::new(),
         forward: 0,
@@ -201,8 +227,14 @@ fn compare_list<W: Word>(calls: usize, random: &mut Random) {
     for _ in 0..calls {
         list.random_call();
     }
-    list.call("record".to_string(), record_line::<W>(n, &list.tape.bytes));
-    list.call("close e8 5 70".to_string(), close_line::<W>(n, &list.tape.bytes, 0xe8, 5));
+    let record = record_of::<W>(n, &list.tape.bytes);
+    let closed = with_receipt::<W>(n, &list.tape.bytes, 0xe8, 5);
+    assert_eq!(list.record, record);
+    let mut output = UNTOUCHED;
+    assert_eq!(compare::close(list.record, 0xe8, 5, &mut output), ACCEPTED);
+    assert_eq!(output[..], closed);
+    list.call("record".to_string(), record_line(&record));
+    list.call(format!("close e8 5 {}", UNTOUCHED.len()), format!("close 0 {}", hex(&closed)));
 
     assert_eq!(list.forward, list.backward + list.tape.whole_blocks());
     let printed = replay(list.script);

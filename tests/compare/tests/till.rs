@@ -1,6 +1,7 @@
-//! Same and Tally against a model written here: a receipt's form by its fields, and firsts by a set.
+//! Same and Tally against a model written here: a receipt's form by its fields, and firsts by a set. Each call is made through the archive
+//! and once more through the program replay.
 
-use compare::{hex, replay, Random, RECEIPT_BYTES};
+use compare::{hex, replay, Counts, Random, Sameness, ACCEPTED, RECEIPT_BYTES};
 use std::collections::HashSet;
 
 /// The most receipts of a list.
@@ -8,6 +9,13 @@ const MOST: usize = 960;
 
 /// Bytes from a receipt's beginning to its digest.
 const FRONT: usize = 4;
+
+/// What Same and Tally answer if they refuse.
+const NO_RECEIPTS: u32 = 13;
+const MALFORMED: u32 = 14;
+
+/// The answer of an accepted tally of no receipts.
+const NO_COUNTS: Counts = Counts { number: ACCEPTED, place: 0, firsts: 0, reprints: 0 };
 
 type Receipt = [u8; RECEIPT_BYTES];
 
@@ -65,41 +73,55 @@ fn damaged(damage: Damage, random: &mut Random) -> Receipt {
     bytes
 }
 
-/// What Tally prints of a list of receipts, of which the one at a place may be malformed.
-fn tally_line(receipts: &[Receipt], malformed: Option<usize>) -> String {
+/// What Tally answers to a list of receipts, of which the one at a place may be malformed.
+fn right_counts(receipts: &[Receipt], malformed: Option<usize>) -> Counts {
     if receipts.len() > MOST {
-        return "tally 13 0 0".to_string();
+        return Counts { number: NO_RECEIPTS, ..NO_COUNTS };
     }
     if let Some(place) = malformed {
-        return format!("tally 14 {place} 0 0");
+        return Counts { number: MALFORMED, place: place as u64, ..NO_COUNTS };
     }
     let firsts = receipts.iter().collect::<HashSet<_>>().len();
-    format!("tally 0 {firsts} {}", receipts.len() - firsts)
+    Counts { firsts: firsts as u64, reprints: (receipts.len() - firsts) as u64, ..NO_COUNTS }
 }
 
+/// Calls of the archive as they are made, and the script that makes them once more with the answers that replay has to print.
 #[derive(Default)]
-struct Script {
-    lines: String,
+struct Calls {
+    script: String,
     expected: Vec<String>,
 }
 
-impl Script {
-    fn call(&mut self, line: String, answer: impl Into<String>) {
-        self.lines += &line;
-        self.lines.push('\n');
-        self.expected.push(answer.into());
+impl Calls {
+    fn line(&mut self, line: String, answer: String) {
+        self.script += &line;
+        self.script.push('\n');
+        self.expected.push(answer);
     }
 
     fn tally(&mut self, receipts: &[Receipt], malformed: Option<usize>) {
-        self.call(format!("tally {}", hex(&receipts.concat())), tally_line(receipts, malformed));
+        self.tally_bytes(&receipts.concat(), right_counts(receipts, malformed));
     }
 
-    fn same(&mut self, a: &[u8], b: &[u8], answer: &str) {
-        self.call(format!("same {} {}", hex(a), hex(b)), answer);
+    fn tally_bytes(&mut self, list: &[u8], right: Counts) {
+        assert_eq!(compare::tally(list), right);
+        let Counts { number, place, firsts, reprints } = right;
+        let place = if number == MALFORMED { format!(" {place}") } else { String::new() };
+        self.line(format!("tally {}", hex(list)), format!("tally {number}{place} {firsts} {reprints}"));
     }
 
-    fn compare(self) {
-        assert_eq!(replay(self.lines), self.expected);
+    fn same(&mut self, a: &[u8], b: &[u8], number: u32, same: bool) {
+        assert_eq!(compare::same(a, b), Sameness { number, same });
+        let verdict = match (number, same) {
+            (ACCEPTED, true) => " yes",
+            (ACCEPTED, false) => " no",
+            _ => "",
+        };
+        self.line(format!("same {} {}", hex(a), hex(b)), format!("same {number}{verdict}"));
+    }
+
+    fn replay(self) {
+        assert_eq!(replay(self.script), self.expected);
     }
 }
 
@@ -117,40 +139,40 @@ fn random_list(count: usize, random: &mut Random) -> Vec<Receipt> {
 #[test]
 fn random_lists() {
     let mut random = Random::new(11);
-    let mut script = Script::default();
+    let mut calls = Calls::default();
     for count in (0..40).chain([100, 500]) {
-        script.tally(&random_list(count, &mut random), None);
+        calls.tally(&random_list(count, &mut random), None);
     }
-    script.compare();
+    calls.replay();
 }
 
 #[test]
 fn the_most_receipts_and_one_more() {
     let mut random = Random::new(12);
-    let mut script = Script::default();
+    let mut calls = Calls::default();
     for count in [MOST - 1, MOST, MOST + 1] {
         let different: Vec<Receipt> = (0..count).map(|_| receipt(64, 512, &mut random)).collect();
-        script.tally(&different, None);
-        script.tally(&vec![different[0]; count], None);
-        script.tally(&random_list(count, &mut random), None);
+        calls.tally(&different, None);
+        calls.tally(&vec![different[0]; count], None);
+        calls.tally(&random_list(count, &mut random), None);
     }
-    script.compare();
+    calls.replay();
 }
 
 /// Receipts that differ in one bit alone: of the digest, of n, or of the word size.
 #[test]
 fn receipts_that_differ_in_one_bit() {
     let mut random = Random::new(13);
-    let mut script = Script::default();
+    let mut calls = Calls::default();
     let one = receipt(64, 512, &mut random);
     let mut list = vec![one];
     for place in FRONT..RECEIPT_BYTES {
         let mut other = one;
         other[place] ^= 1 << random.below(8);
-        script.same(&one, &other, "same 0 no");
+        calls.same(&one, &other, ACCEPTED, false);
         list.push(other);
     }
-    script.tally(&list, None);
+    calls.tally(&list, None);
 
     // The digest's bits are all 0, so that another n and another w leave the receipt well formed.
     let mut zeros = [0; RECEIPT_BYTES];
@@ -160,52 +182,52 @@ fn receipts_that_differ_in_one_bit() {
     let mut wider = zeros;
     wider[0] = 64;
     for other in [&longer, &wider] {
-        script.same(&zeros, other, "same 0 no");
+        calls.same(&zeros, other, ACCEPTED, false);
     }
-    script.tally(&[zeros, longer, wider, zeros], None);
-    script.compare();
+    calls.tally(&[zeros, longer, wider, zeros], None);
+    calls.replay();
 }
 
 #[test]
 fn damaged_receipts() {
     let mut random = Random::new(14);
-    let mut script = Script::default();
+    let mut calls = Calls::default();
     for damage in DAMAGES {
         for _ in 0..20 {
             let bad = damaged(damage, &mut random);
             let good = random_receipt(&mut random);
-            script.same(&bad, &good, "same 14");
-            script.same(&good, &bad, "same 14");
-            script.same(&bad, &bad, "same 14");
+            calls.same(&bad, &good, MALFORMED, false);
+            calls.same(&good, &bad, MALFORMED, false);
+            calls.same(&bad, &bad, MALFORMED, false);
 
             let mut list = random_list(30, &mut random);
             let place = random.below(30) as usize;
             list[place] = bad;
             // A later one does not count.
             list.push(damaged(damage, &mut random));
-            script.tally(&list, Some(place));
+            calls.tally(&list, Some(place));
         }
     }
-    script.compare();
+    calls.replay();
 }
 
 #[test]
 fn lengths_of_no_receipt() {
     let mut random = Random::new(15);
-    let mut script = Script::default();
+    let mut calls = Calls::default();
     let good = random_receipt(&mut random);
     let long = [&good[..], &good].concat();
     for length in 0..=long.len() {
         if length != RECEIPT_BYTES {
             // 13 is tested on both before 14 on either.
-            script.same(&long[..length], &good, "same 13");
-            script.same(&damaged(Damage::ByteOne, &mut random), &long[..length], "same 13");
+            calls.same(&long[..length], &good, NO_RECEIPTS, false);
+            calls.same(&damaged(Damage::ByteOne, &mut random), &long[..length], NO_RECEIPTS, false);
         }
         if !length.is_multiple_of(RECEIPT_BYTES) {
-            script.call(format!("tally {}", hex(&long[..length])), "tally 13 0 0");
+            calls.tally_bytes(&long[..length], Counts { number: NO_RECEIPTS, ..NO_COUNTS });
         }
     }
-    script.same(&good, &good, "same 0 yes");
-    script.call("tally -".to_string(), "tally 0 0 0");
-    script.compare();
+    calls.same(&good, &good, ACCEPTED, true);
+    calls.tally_bytes(&[], NO_COUNTS);
+    calls.replay();
 }
