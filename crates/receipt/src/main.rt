@@ -19,9 +19,10 @@ struct Asked {
     digest: bool,
     tally: bool,
     first: usize,
-    // Whether the next argument may be an option, and whether one was wrong.
+    // Whether the next argument may be an option.
     more: bool,
-    wrong: bool,
+    // Whether no file is read, since an option was wrong or the help was asked for.
+    ended: bool,
 }
 
 // The record of a file's bytes, if they could be read.
@@ -35,7 +36,7 @@ struct Reading {
 fn main() {
     let mut text = io::buffer();
     let a = options(&mut text);
-    if a.wrong {
+    if a.ended {
         return;
     }
     let n = digest_length(a.w, a.n);
@@ -51,7 +52,7 @@ fn main() {
     }
     if os::arg_count() <= a.first {
         say(b"no file is named");
-        usage();
+        usage(STDERR_FILENO);
         return;
     }
     let mut line = io::large_buffer();
@@ -88,7 +89,7 @@ fn options(text: &mut [u8]) -> Asked {
         tally: false,
         first: 1,
         more: true,
-        wrong: false,
+        ended: false,
     };
     let mut turns = u64::MAX;
     while turns > 0 && a.more {
@@ -132,9 +133,13 @@ fn named(a: Asked, name: &[u8], next: usize) -> Asked {
     if equal::equal_bytes(name, b"-n") {
         return bits(a, next);
     }
+    if is_help(name) {
+        help();
+        return without_files(a);
+    }
     name_wrong(name, b"there is no such option");
-    usage();
-    with_fault(a)
+    usage(STDERR_FILENO);
+    without_files(a)
 }
 
 // Whether an argument begins with a dash and is longer.
@@ -149,13 +154,13 @@ fn is_option(text: &[u8]) -> bool {
 fn word_size(a: Asked, at: usize) -> Asked {
     let value = number(b"-w", at);
     if !value.is {
-        return with_fault(a);
+        return without_files(a);
     }
     if !runs::is_word_size(value.value) {
         io::write_all(STDERR_FILENO, b"receipt: -w ");
         io::print_decimal(STDERR_FILENO, value.value);
         io::write_all(STDERR_FILENO, b": the word size is 32 or 64\n");
-        return with_fault(a);
+        return without_files(a);
     }
     with_sizes(a, at, value.value, a.n)
 }
@@ -164,11 +169,11 @@ fn word_size(a: Asked, at: usize) -> Asked {
 fn bits(a: Asked, at: usize) -> Asked {
     let value = number(b"-n", at);
     if !value.is {
-        return with_fault(a);
+        return without_files(a);
     }
     if value.value == 0 {
         say(b"-n 0: a digest has 1 bit at least");
-        return with_fault(a);
+        return without_files(a);
     }
     with_sizes(a, at, a.w, value.value)
 }
@@ -203,7 +208,7 @@ fn end_options(a: Asked, first: usize) -> Asked {
         tally: a.tally,
         first: first,
         more: false,
-        wrong: false,
+        ended: false,
     }
 }
 
@@ -215,7 +220,7 @@ fn with_flags(a: Asked, first: usize, digest: bool, tally: bool) -> Asked {
         tally: tally,
         first: first,
         more: true,
-        wrong: false,
+        ended: false,
     }
 }
 
@@ -228,11 +233,11 @@ fn with_sizes(a: Asked, at: usize, w: u64, n: u64) -> Asked {
         tally: a.tally,
         first: std::num::wrapping_add_usize(at, 1),
         more: true,
-        wrong: false,
+        ended: false,
     }
 }
 
-fn with_fault(a: Asked) -> Asked {
+fn without_files(a: Asked) -> Asked {
     Asked {
         w: a.w,
         n: a.n,
@@ -240,7 +245,7 @@ fn with_fault(a: Asked) -> Asked {
         tally: a.tally,
         first: a.first,
         more: false,
-        wrong: true,
+        ended: true,
     }
 }
 
@@ -258,11 +263,42 @@ fn name_wrong(name: &[u8], fault: &[u8]) {
     io::write_all(STDERR_FILENO, b"\n");
 }
 
-fn usage() {
+fn is_help(name: &[u8]) -> bool {
+    if equal::equal_bytes(name, b"-h") {
+        return true;
+    }
+    equal::equal_bytes(name, b"--help")
+}
+
+fn usage(fd: i32) {
     io::write_all(
-        STDERR_FILENO,
+        fd,
         b"usage: receipt [-w 32|64] [-n BITS] [--digest] [--tally] FILE...\n",
     );
+}
+
+// What the program does, on standard output. ./kiosk has the same text.
+fn help() {
+    usage(STDOUT_FILENO);
+    io::write_all(
+        STDOUT_FILENO,
+        b"Prints a receipt of each file in hexadecimal, and the file's name; - is standard input.\n",
+    );
+    io::write_all(
+        STDOUT_FILENO,
+        b"  -w 32|64    the word size, 32 if it is not given\n",
+    );
+    io::write_all(
+        STDOUT_FILENO,
+        b"  -n BITS     the digest length, 1 to 8 times the word size, the longest if it is not given\n",
+    );
+    io::write_all(STDOUT_FILENO, b"  --digest    prints the digest alone\n");
+    io::write_all(
+        STDOUT_FILENO,
+        b"  --tally     adds a line: how many receipts are firsts, and how many reprints\n",
+    );
+    io::write_all(STDOUT_FILENO, b"  --          ends the options\n");
+    io::write_all(STDOUT_FILENO, b"  -h, --help  prints this\n");
 }
 
 // Prints the receipts of the files, puts them into the list as long as it has room, and answers how many there are.
