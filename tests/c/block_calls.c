@@ -64,12 +64,8 @@ static void make_right_call(const struct run *run, uint64_t w, struct guarded *c
 
 /* ---- what is tried ---- */
 
-/* Every combination of these, the few right ones among them. Cut to 32 bits, or doubled and cut to 64, some of the
+/* Every combination of these with the word sizes of checks.h, the few right ones among them. Cut to 32 bits some of the
  * large ones would be right. */
-static const uint64_t tried_word_sizes[] = {
-    0, 1, 16, 31, 32, 33, 63, 64, 65, 128, 256, 512, TWO_TO_32 + 32, TWO_TO_32 + 64, TWO_TO_63 + 32, TWO_TO_63 + 64,
-    UINT64_MAX - 31, UINT64_MAX,
-};
 static const size_t tried_chain_lengths[] = {
     0, 1, 32, 63, 64, 65, 127, 128, 129, 256, TWO_TO_32 + 64, TWO_TO_32 + 128, SIZE_MAX - 63, SIZE_MAX,
 };

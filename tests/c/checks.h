@@ -63,6 +63,17 @@ static uint64_t next_random(void)
 #define TWO_TO_61 ((uint64_t)1 << 61)
 #define TWO_TO_63 ((uint64_t)1 << 63)
 
+/* Word sizes and digest lengths, the right ones among them. Cut to 8, 16 or 32 bits, or multiplied by a small number and cut to 64, some of
+ * the large ones would be right. */
+static const uint64_t tried_word_sizes[] = {
+    0, 1, 16, 31, 32, 33, 63, 64, 65, 128, 256, 256 + 32, 512, TWO_TO_32 + 32, TWO_TO_32 + 64, TWO_TO_63 + 32,
+    TWO_TO_63 + 64, UINT64_MAX - 31, UINT64_MAX,
+};
+static const uint64_t tried_digest_lengths[] = {
+    0, 1, 7, 8, 224, 255, 256, 257, 511, 512, 513, TWO_TO_16 + 256, TWO_TO_32, TWO_TO_32 + 256, TWO_TO_63,
+    TWO_TO_63 + 256, UINT64_MAX,
+};
+
 /* The low 8 - e bits of a byte, e at most 7. */
 static inline uint8_t low_bits(uint64_t e)
 {

@@ -232,14 +232,6 @@ static void try_record(const lsh_record *r)
     }
 }
 
-static const uint64_t tried_word_sizes[] = {
-    0, 1, 16, 31, 32, 33, 63, 64, 65, 128, 256 + 32, TWO_TO_32 + 32, TWO_TO_32 + 64, TWO_TO_63 + 32, TWO_TO_63 + 64,
-    UINT64_MAX,
-};
-static const uint64_t tried_digest_lengths[] = {
-    0, 1, 7, 8, 224, 255, 256, 257, 511, 512, 513, TWO_TO_16 + 256, TWO_TO_32, TWO_TO_32 + 256, TWO_TO_63,
-    TWO_TO_63 + 256, UINT64_MAX,
-};
 static const uint64_t tried_totals[] = {
     0, LSH_MOST_BYTES - 256, LSH_MOST_BYTES, LSH_MOST_BYTES + 256, 2 * LSH_MOST_BYTES, TWO_TO_63, UINT64_MAX - 255,
 };

@@ -186,18 +186,10 @@ static void try_every_last_byte(uint64_t w)
 
 /* ---- what is tried: right and wrong arguments ---- */
 
-/* Every combination of these, the right ones among them, so that each refusal is tried together with all that come
- * after it in order. Cut to 8, 16 or 32 bits, or multiplied by 8 and cut to 64, some of the large ones would be right;
- * an output of 2^32 + 67 bytes is right, and cut to 32 bits it would be too short. */
-static const uint64_t tried_word_sizes[] = {
-    0, 1, 16, 31, 32, 33, 63, 64, 65, 128, 256 + 32, TWO_TO_32 + 32, TWO_TO_32 + 64, TWO_TO_63 + 32, TWO_TO_63 + 64,
-    UINT64_MAX,
-};
-static const uint64_t tried_digest_lengths[] = {
-    0, 1, 7, 8, 224, 255, 256, 257, 511, 512, 513, TWO_TO_16 + 256, TWO_TO_32, TWO_TO_32 + 256, TWO_TO_63,
-    TWO_TO_63 + 256, UINT64_MAX,
-};
-/* No message of exactly 2^40 bytes: the call would accept it and read all of it. */
+/* Every combination of these with the word sizes and digest lengths of checks.h, the right ones among them, so that each
+ * refusal is tried together with all that come after it in order. Cut to 8 or 32 bits, or multiplied by 8 and cut to 64,
+ * some of the large ones would be right.
+ * No message of exactly 2^40 bytes: the call would accept it and read all of it. */
 static const size_t tried_message_lengths[] = {
     0, 3, LSH_BLOCK_BYTES(32) + 1, LSH_MOST_BYTES + 1, TWO_TO_61 + 1, SIZE_MAX,
 };
