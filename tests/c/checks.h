@@ -1,6 +1,6 @@
 /* What the programs of this folder share: checks that are counted, random numbers, and buffers between guard bytes.
- * A program defines two names before it includes this file: PROGRAM, its own name as a string, and LARGEST, the bytes
- * of the largest buffer that it lends. */
+ * A program includes lsh_kiosk.h and defines two names before it includes this file: PROGRAM, its own name as a string,
+ * and LARGEST, the bytes of the largest buffer that it lends. */
 #ifndef CHECKS_H
 #define CHECKS_H
 
@@ -56,6 +56,11 @@ static uint64_t next_random(void)
     return z ^ z >> 31;
 }
 
+static inline size_t below(size_t limit)
+{
+    return (size_t)(next_random() % limit);
+}
+
 /* ---- numbers that are tried ---- */
 
 #define TWO_TO_16 ((uint64_t)1 << 16)
@@ -78,6 +83,27 @@ static const uint64_t tried_digest_lengths[] = {
 static inline uint8_t low_bits(uint64_t e)
 {
     return (uint8_t)(0xffu >> e);
+}
+
+/* A last byte that goes with e. */
+static inline uint8_t random_last_byte(uint64_t e)
+{
+    return (uint8_t)(next_random() & ~(uint64_t)low_bits(e));
+}
+
+/* What Close and Whole answer by the end of the message and the length of the output, their last three tests. */
+static inline uint32_t end_answer(uint8_t last, uint64_t e, size_t output_len)
+{
+    if (e > 7) {
+        return LSH_BAD_EXTRA_BITS;
+    }
+    if ((last & low_bits(e)) != 0) {
+        return LSH_BAD_LAST_BYTE;
+    }
+    if (output_len < LSH_RECEIPT_BYTES) {
+        return LSH_SHORT_OUTPUT;
+    }
+    return LSH_ACCEPTED;
 }
 
 /* ---- buffers ---- */
@@ -109,6 +135,15 @@ static void fill(struct guarded *guarded)
     for (size_t i = 0; i < GUARDED; i++) {
         guarded->bytes[i] = (uint8_t)next_random();
     }
+}
+
+/* A place for an answer that is returned in memory: the caller passes its address before all arguments. A compiler may have the answer
+ * written to a place of its own and copy it, so that guard bytes around the copy show nothing; where the address is passed by hand, they do. */
+static inline void *place_for_answer(struct guarded *guarded)
+{
+    guarded->start = GUARD; /* aligned for every struct */
+    take_copy(guarded);
+    return buffer(guarded);
 }
 
 /* Whether all bytes are those of the copy, except for the first `writable` bytes of the buffer. */

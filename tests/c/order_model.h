@@ -1,4 +1,5 @@
-/* What the calls on an order have to answer, written from document 01 in the plainest way, byte by byte, over the two block calls alone. */
+/* What the calls on an order have to answer, written from document 01 in the plainest way, byte by byte, over the two block calls alone.
+ * checks.h comes before it. */
 #ifndef ORDER_MODEL_H
 #define ORDER_MODEL_H
 
@@ -126,16 +127,7 @@ static uint32_t right_close_answer(const lsh_record *r, uint8_t last, uint64_t e
     if (!is_sound(r)) {
         return LSH_UNSOUND_RECORD;
     }
-    if (e > 7) {
-        return LSH_BAD_EXTRA_BITS;
-    }
-    if ((last & 0xffu >> e) != 0) {
-        return LSH_BAD_LAST_BYTE;
-    }
-    if (output_len < LSH_RECEIPT_BYTES) {
-        return LSH_SHORT_OUTPUT;
-    }
-    return LSH_ACCEPTED;
+    return end_answer(last, e, output_len);
 }
 
 /* The receipt that an accepted Close writes. */

@@ -1,5 +1,6 @@
 /* Calls lsh_same and lsh_tally as a driver written in C does, with right and with wrong arguments.
- * After each call it checks the whole answer, that the bytes lent are as they were, and the guard bytes around them.
+ * After each call it checks the whole answer, that the bytes lent are as they were, and the guard bytes around them and around an answer that
+ * is returned in memory. That of lsh_same is returned in a register.
  * It prints how many checks passed, or each that failed; the exit status is 0 only if all passed. */
 #include <inttypes.h>
 #include <stdbool.h>
@@ -85,16 +86,32 @@ static void same(struct guarded *a, size_t a_len, struct guarded *b, size_t b_le
     check(kept_except(a, 0) && kept_except(b, 0), "lsh_same of %zu and %zu bytes writes", a_len, b_len);
 }
 
+/* The call once more, as the archive has it: with the address of its answer. */
+void *tally_to(void *answer, const uint8_t *list, size_t list_len) __asm__("lsh_tally");
+
+/* Where this writes. */
+static struct guarded place;
+
+static void check_counts(const lsh_counts *counts, const lsh_counts *right, size_t list_len)
+{
+    check(counts->number == right->number && counts->place == right->place && counts->firsts == right->firsts
+              && counts->reprints == right->reprints,
+          "lsh_tally of %zu bytes answers %" PRIu32 ", place %" PRIu64 ", firsts %" PRIu64 ", reprints %" PRIu64 ", not %" PRIu32
+          ", %" PRIu64 ", %" PRIu64 ", %" PRIu64,
+          list_len, counts->number, counts->place, counts->firsts, counts->reprints, right->number, right->place, right->firsts,
+          right->reprints);
+}
+
 static void tally(struct guarded *list, size_t list_len)
 {
     lsh_counts right = right_tally(buffer(list), list_len);
     take_copy(list);
     lsh_counts answer = lsh_tally(buffer(list), list_len);
-    check(answer.number == right.number && answer.place == right.place && answer.firsts == right.firsts
-              && answer.reprints == right.reprints,
-          "lsh_tally of %zu bytes answers %" PRIu32 ", place %" PRIu64 ", firsts %" PRIu64 ", reprints %" PRIu64 ", not %" PRIu32
-          ", %" PRIu64 ", %" PRIu64 ", %" PRIu64,
-          list_len, answer.number, answer.place, answer.firsts, answer.reprints, right.number, right.place, right.firsts, right.reprints);
+    check_counts(&answer, &right, list_len);
+    tally_to(place_for_answer(&place), buffer(list), list_len);
+    memcpy(&answer, buffer(&place), sizeof answer);
+    check_counts(&answer, &right, list_len);
+    check(kept_except(&place, sizeof answer), "lsh_tally of %zu bytes writes outside its answer", list_len);
     check(kept_except(list, 0), "lsh_tally of %zu bytes writes", list_len);
 }
 
@@ -102,11 +119,6 @@ static void tally(struct guarded *list, size_t list_len)
 
 /* The buffers are large, so they are not on the stack. */
 static struct guarded one, other;
-
-static size_t below(size_t limit)
-{
-    return (size_t)(next_random() % limit);
-}
 
 /* A receipt as lsh_whole writes it, of a message of one byte. There are few messages, so that some receipts come again. */
 static void write_receipt(uint8_t *receipt)
@@ -140,7 +152,7 @@ static void try_pairs(void)
     }
 }
 
-/* Each of the first four bytes with every value, and every bit of the others. */
+/* Each byte of a receipt with every value. */
 static void try_every_byte(void)
 {
     fill(&one);
@@ -200,6 +212,7 @@ static void try_list(size_t count)
 
 int main(void)
 {
+    fill(&place);
     try_pairs();
     try_every_byte();
     try_lengths();

@@ -35,16 +35,7 @@ static uint32_t right_answer(const struct arguments *given)
     if (given->message_len > LSH_MOST_BYTES) {
         return LSH_TOO_LONG;
     }
-    if (given->e > 7) {
-        return LSH_BAD_EXTRA_BITS;
-    }
-    if ((given->last & low_bits(given->e)) != 0) {
-        return LSH_BAD_LAST_BYTE;
-    }
-    if (given->output_len < LSH_RECEIPT_BYTES) {
-        return LSH_SHORT_OUTPUT;
-    }
-    return LSH_ACCEPTED;
+    return end_answer(given->last, given->e, given->output_len);
 }
 
 static bool all_zero(const uint8_t *bytes, size_t count)
@@ -148,7 +139,7 @@ static struct arguments random_right_arguments(uint64_t w)
     given.n = 1 + next_random() % (8 * w);
     given.message_len = next_random() % (LARGEST + 1);
     given.e = next_random() % 8;
-    given.last = (uint8_t)(next_random() & ~(uint64_t)low_bits(given.e));
+    given.last = random_last_byte(given.e);
     given.output_len = LSH_RECEIPT_BYTES + next_random() % (LARGEST - LSH_RECEIPT_BYTES + 1);
     return given;
 }

@@ -11,9 +11,21 @@ pub use replay::{hex, replay};
 pub const ACCEPTED: u32 = 0;
 pub const BAD_WORD_SIZE: u32 = 1;
 pub const BAD_LENGTH: u32 = 4;
+pub const NO_RECEIPTS: u32 = 13;
+pub const MALFORMED: u32 = 14;
 
 /// Bytes of a receipt.
 pub const RECEIPT_BYTES: usize = 68;
+
+/// The receipt of a digest of n bits: w, 0, the two bytes of n, the digest and zeros.
+pub fn receipt(w: u64, n: u64, digest: &[u8]) -> Vec<u8> {
+    assert_eq!(digest.len() as u64, n.div_ceil(8), "bytes of a digest of {n} bits");
+    let mut receipt = vec![w as u8, 0];
+    receipt.extend((n as u16).to_le_bytes());
+    receipt.extend(digest);
+    receipt.resize(RECEIPT_BYTES, 0);
+    receipt
+}
 
 /// The record of an order.
 #[repr(C)]

@@ -1,7 +1,7 @@
 //! Lists of Append and Rewind calls against document 01's plain tape, written here, and against lsh_ref: each list through the
 //! archive's calls, and once more through the program replay.
 
-use compare::{hex, replay, Outcome, Random, Record, ACCEPTED, RECEIPT_BYTES};
+use compare::{hex, receipt, replay, Outcome, Random, Record, ACCEPTED, RECEIPT_BYTES};
 use lsh_ref::Word;
 
 /// The most bytes of an order.
@@ -202,11 +202,9 @@ const UNTOUCHED: [u8; RECEIPT_BYTES + 2] = [0xa5; RECEIPT_BYTES + 2];
 
 /// Such bytes with the receipt of the bytes and the top e bits of the last byte at their front, by lsh_ref.
 fn with_receipt<W: Word>(n: u64, bytes: &[u8], last: u8, e: u64) -> Vec<u8> {
-    let mut receipt = vec![W::BITS as u8, 0, n as u8, (n >> 8) as u8];
-    receipt.extend(lsh_ref::hash_bits::<W>(n, bytes, last, e as u32));
-    receipt.resize(RECEIPT_BYTES, 0);
-    receipt.extend(&UNTOUCHED[RECEIPT_BYTES..]);
-    receipt
+    let mut output = receipt(W::BITS as u64, n, &lsh_ref::hash_bits::<W>(n, bytes, last, e as u32));
+    output.extend(&UNTOUCHED[RECEIPT_BYTES..]);
+    output
 }
 
 /// A random list of calls, with the record and a receipt after it.

@@ -1,7 +1,7 @@
 //! Same and Tally against a model written here: a receipt's form by its fields, and firsts by a set. Each call is made through the archive
 //! and once more through the program replay.
 
-use compare::{hex, replay, Counts, Random, Sameness, ACCEPTED, RECEIPT_BYTES};
+use compare::{hex, replay, Counts, Random, Sameness, ACCEPTED, MALFORMED, NO_RECEIPTS, RECEIPT_BYTES};
 use std::collections::HashSet;
 
 /// The most receipts of a list.
@@ -9,10 +9,6 @@ const MOST: usize = 960;
 
 /// Bytes from a receipt's beginning to its digest.
 const FRONT: usize = 4;
-
-/// What Same and Tally answer if they refuse.
-const NO_RECEIPTS: u32 = 13;
-const MALFORMED: u32 = 14;
 
 /// The answer of an accepted tally of no receipts.
 const NO_COUNTS: Counts = Counts { number: ACCEPTED, place: 0, firsts: 0, reprints: 0 };

@@ -1,6 +1,6 @@
 //! Calls of lsh_whole, with the output between guard bytes.
 
-use compare::{whole, Random, ACCEPTED, RECEIPT_BYTES};
+use compare::{receipt, whole, Random, ACCEPTED, RECEIPT_BYTES};
 
 const GUARD: usize = 64;
 
@@ -13,22 +13,12 @@ pub struct Arguments<'a> {
     pub e: u64,
 }
 
-/// The receipt's layout: w, 0, the two bytes of n, the digest and zeros.
-fn receipt(given: &Arguments, digest: &[u8]) -> Vec<u8> {
-    assert_eq!(digest.len() as u64, given.n.div_ceil(8), "bytes of a digest of {} bits", given.n);
-    let mut receipt = vec![given.w as u8, 0];
-    receipt.extend((given.n as u16).to_le_bytes());
-    receipt.extend(digest);
-    receipt.resize(RECEIPT_BYTES, 0);
-    receipt
-}
-
 /// Asserts that the call accepts and writes the receipt with this digest, and no byte before or after it. The output
 /// lent has the length of a receipt or up to GUARD bytes more.
 pub fn assert_receipt(given: &Arguments, digest: &[u8], random: &mut Random) {
     let mut memory = random.bytes(GUARD + RECEIPT_BYTES + GUARD);
     let mut expected = memory.clone();
-    expected[GUARD..GUARD + RECEIPT_BYTES].copy_from_slice(&receipt(given, digest));
+    expected[GUARD..GUARD + RECEIPT_BYTES].copy_from_slice(&receipt(given.w, given.n, digest));
 
     let lent = RECEIPT_BYTES + random.below(GUARD as u64 + 1) as usize;
     let answer = whole(given.w, given.n, given.message, given.last, given.e, &mut memory[GUARD..GUARD + lent]);
