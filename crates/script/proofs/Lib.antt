@@ -1,4 +1,5 @@
 pub mod Lines
+pub mod Places
 pub mod Reading
 pub mod Chains
 pub mod Printing

@@ -2,8 +2,9 @@
 -- Assumes nothing.
 use mathlib.Core.Bool.{cond}
 use mathlib.Core.List.{List, [], _∷_}
-use Prim.Native.Nat.{ℕ, zero, suc}
+use Prim.Native.Nat.{ℕ, zero, suc, _+_}
 use lib.Dec.{eqb}
+use Rattle.equal.specs.Equal.{equal}
 
 -- the bytes before the first that is the mark, all of them if none is
 abbrev pub before : ℕ → List ℕ → List ℕ
@@ -24,3 +25,12 @@ afterSpaces (suc k) (x ∷ s) = cond (eqb x 32) (afterSpaces k s) (afterSpaces (
 -- word i, counted from 0
 unfoldable pub wordAt : ℕ → List ℕ → List ℕ
 wordAt i s = before 32 (afterSpaces i s)
+
+-- the place of the first of the k words from word i on that is this word, or i + k if none is
+unfoldable pub placeFrom : List ℕ → List ℕ → ℕ → ℕ → ℕ
+placeFrom s word i zero = i
+placeFrom s word i (suc k) = cond (equal (wordAt i s) word) i (placeFrom s word (suc i) k)
+
+-- the place of a word among those of a line, or how many these are if it is none of them
+unfoldable pub placeOf : List ℕ → List ℕ → ℕ
+placeOf s word = placeFrom s word 0 (spaces s + 1)

@@ -5,7 +5,7 @@ ghost use Prim.Native.Nat.{_+_, _-_, _*_, _/_, _<_, _≤_};
 ghost use lib.ListN.{length, take, drop, replicate};
 ghost use lib.Seq.{sets};
 ghost use Rattle.lsh.specs.Tabulate.{tabulate};
-ghost use Rattle.script.specs.Words.{before, spaces, afterSpaces, wordAt};
+ghost use Rattle.script.specs.Words.{before, spaces, afterSpaces, wordAt, placeOf};
 ghost use Rattle.script.specs.Numbers.{isDigit, noNumber, wordNumber, highestFirst};
 ghost use Rattle.script.specs.Hex.{isHexDigit, allHex, hexValue, byteOf, isDash, isHexBytes, noLength, wordLength, written, hexDigit, digitAt, digitsOf, printed};
 
@@ -72,6 +72,22 @@ fn after_spaces(line: &[u8], k: usize) -> usize
         }
         if line[i] == b' ' {
             left -= 1;
+        }
+        i += 1;
+    }
+    i
+}
+
+// The place of a name among names with one space between two, counted from 0, so that a caller can choose by a number; how many names there are if
+// it is none of them.
+pub fn place(names: &[u8], name: &[u8]) -> usize
+    ensures { λ r. ⌜ r ≡ placeOf (now (names .entry)) (now (name .entry)) ⌝ }
+{
+    let end = count_spaces(names) + 1;
+    let mut i: usize = 0;
+    while i < end {
+        if equal::equal_bytes(word(names, i), name) {
+            return i;
         }
         i += 1;
     }
