@@ -411,7 +411,7 @@ fn keep(list: &mut [u8], count: usize, receipt: [u8; RECEIPT])
         return;
     }
     let r = receipt;
-    script::put(list, RECEIPT * count, &r);
+    text::put(list, RECEIPT * count, &r);
 }
 
 // Prints a line: the receipt, or its digest of n bits alone, and the name. As sha256sum does, a line whose name has a backslash or a newline
@@ -421,9 +421,9 @@ fn print_receipt(digest: bool, n: u64, receipt: [u8; RECEIPT], name: &[u8], line
 {
     let a = put_mark(line, name);
     let b = put_shown(digest, n, receipt, line, a);
-    let c = script::put(line, b, b"  ");
+    let c = text::put(line, b, b"  ");
     let d = put_name(line, c, name);
-    let e = script::put(line, d, b"\n");
+    let e = text::put(line, d, b"\n");
     if io::write_all(STDOUT_FILENO, &line[..e]) {
         return true;
     }
@@ -438,10 +438,10 @@ fn put_mark(line: &mut [u8], name: &[u8]) -> usize
 {
     let size = name.len();
     if script::until(name, b'\\') < size {
-        return script::put(line, 0, b"\\");
+        return text::put(line, 0, b"\\");
     }
     if script::until(name, b'\n') < size {
-        return script::put(line, 0, b"\\");
+        return text::put(line, 0, b"\\");
     }
     0
 }
@@ -454,9 +454,9 @@ fn put_shown(digest: bool, n: u64, receipt: [u8; RECEIPT], line: &mut [u8], at: 
     let r = receipt;
     if digest {
         let end = digest_end(n);
-        return script::put_bytes(line, at, &r[4..end]);
+        return text::put_bytes(line, at, &r[4..end]);
     }
-    script::put_bytes(line, at, &r)
+    text::put_bytes(line, at, &r)
 }
 
 // The place after the digest of n bits, which begins at byte 4.
@@ -488,13 +488,13 @@ fn put_byte(line: &mut [u8], at: usize, c: u8) -> usize
     ensures { λ r. ⌜ r ≤ at + 2 ⌝ }
 {
     if c == b'\\' {
-        return script::put(line, at, b"\\\\");
+        return text::put(line, at, b"\\\\");
     }
     if c == b'\n' {
-        return script::put(line, at, b"\\n");
+        return text::put(line, at, b"\\n");
     }
     let one = [c];
-    script::put(line, at, &one)
+    text::put(line, at, &one)
 }
 
 // The last line: the tally of the receipts.

@@ -2,4 +2,3 @@ pub mod Lines
 pub mod Places
 pub mod Reading
 pub mod Chains
-pub mod Printing

@@ -1,4 +1,4 @@
--- Bytes as two lower-case hexadecimal digits each, the high one first.
+-- Bytes read from two lower-case hexadecimal digits each, the high one first.
 -- Assumes nothing.
 use mathlib.Core.Bool.{Bool, true, false, not, _&&_, _||_, cond}
 use mathlib.Core.List.{List, [], _∷_}
@@ -52,19 +52,3 @@ wordLength s most = cond (isBytes s most) (record { is = true; count = length (w
 -- the output with the bytes at its front
 unfoldable pub written : List ℕ → List ℕ → List ℕ
 written s output = cond (isBytes s (length output)) (sets output 0 (wordBytes s)) output
-
--- the digit of a value
-unfoldable pub hexDigit : ℕ → ℕ
-hexDigit d = cond (ltb d 10) (48 + d) (87 + d)
-
--- digit k of bytes
-unfoldable pub digitAt : List ℕ → ℕ → ℕ
-digitAt s k = hexDigit (cond (eqb (k % 2) 0) (at s (k / 2) / 16) (at s (k / 2) % 16))
-
--- the digits of bytes
-unfoldable pub digitsOf : List ℕ → List ℕ
-digitsOf s = tabulate (2 * length s) (digitAt s)
-
--- bytes as they are printed: - for none
-unfoldable pub printed : List ℕ → List ℕ
-printed s = cond (eqb (length s) 0) (45 ∷ []) (digitsOf s)

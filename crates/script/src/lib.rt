@@ -1,13 +1,13 @@
-// The words of a replay script: a line taken apart into words, what a word says, and bytes and text as they are printed.
+// The words of a replay script: a line taken apart into words, and what a word says.
 ghost use mathlib.Core.Path.{_≡_};
 ghost use mathlib.Core.Bool.{true};
 ghost use Prim.Native.Nat.{_+_, _-_, _*_, _/_, _<_, _≤_};
-ghost use lib.ListN.{length, take, drop, replicate};
+ghost use lib.ListN.{length, take, drop};
 ghost use lib.Seq.{sets};
 ghost use Rattle.lsh.specs.Tabulate.{tabulate};
 ghost use Rattle.script.specs.Words.{before, spaces, afterSpaces, wordAt, placeOf};
 ghost use Rattle.script.specs.Numbers.{isDigit, noNumber, wordNumber, highestFirst};
-ghost use Rattle.script.specs.Hex.{isHexDigit, allHex, hexValue, byteOf, isDash, isHexBytes, noLength, wordLength, written, hexDigit, digitAt, digitsOf, printed};
+ghost use Rattle.script.specs.Hex.{isHexDigit, allHex, hexValue, byteOf, isDash, isHexBytes, noLength, wordLength, written};
 
 // The number that a word says, if it is one.
 pub struct Number {
@@ -284,72 +284,4 @@ fn wide(x: u8) -> u64
     ensures { λ r. ⌜ (r ≡ x) × (r < 256) ⌝ }
 {
     x as u64
-}
-
-// Writes one byte into every place of the output.
-pub fn fill(output: &mut [u8], x: u8)
-    ensures { λ _. ⌜ now (output .exit) ≡ replicate (length (now (output .entry))) x ⌝ }
-{
-    let n = output.len();
-    for i in 0..n {
-        output[i] = x;
-    }
-}
-
-// Writes text into the output from a place on, and returns the place after it.
-pub fn put(output: &mut [u8], from: usize, text: &[u8]) -> usize
-    requires { ⌜ from + length (now text) ≤ length (now output) ⌝ }
-    ensures { λ r. ⌜ (r ≡ from + length (now (text .entry))) × (now (output .exit) ≡ sets (now (output .entry)) from (now (text .entry))) ⌝ }
-{
-    let n = text.len();
-    for i in 0..n {
-        let place = from + i;
-        output[place] = text[i];
-    }
-    from + n
-}
-
-// Writes bytes as they are printed, likewise.
-pub fn put_bytes(output: &mut [u8], from: usize, bytes: &[u8]) -> usize
-    requires { ⌜ from + 2 * length (now bytes) + 1 ≤ length (now output) ⌝ }
-    ensures { λ r. ⌜ (r ≡ from + length (printed (now (bytes .entry)))) × (r ≤ from + 2 * length (now (bytes .entry)) + 1) × (now (output .exit) ≡ sets (now (output .entry)) from (printed (now (bytes .entry)))) ⌝ }
-{
-    if bytes.len() == 0 {
-        return put(output, from, b"-");
-    }
-    put_digits(output, from, bytes)
-}
-
-fn put_digits(output: &mut [u8], from: usize, bytes: &[u8]) -> usize
-    requires { ⌜ from + 2 * length (now bytes) ≤ length (now output) ⌝ }
-    ensures { λ r. ⌜ (r ≡ from + 2 * length (now (bytes .entry))) × (now (output .exit) ≡ sets (now (output .entry)) from (digitsOf (now (bytes .entry)))) ⌝ }
-{
-    let n = 2 * bytes.len();
-    for k in 0..n {
-        let place = from + k;
-        output[place] = digit_at(bytes, k);
-    }
-    from + n
-}
-
-// Digit k of the bytes.
-fn digit_at(bytes: &[u8], k: usize) -> u8
-    requires { ⌜ k < 2 * length (now bytes) ⌝ }
-    ensures { λ r. ⌜ r ≡ digitAt (now (bytes .entry)) k ⌝ }
-{
-    let i = k / 2;
-    if k % 2 == 0 {
-        return hex_digit(bytes[i] / 16);
-    }
-    hex_digit(bytes[i] % 16)
-}
-
-fn hex_digit(d: u8) -> u8
-    requires { ⌜ d < 16 ⌝ }
-    ensures { λ r. ⌜ r ≡ hexDigit d ⌝ }
-{
-    if d < 10 {
-        return b'0' + d;
-    }
-    87 + d
 }

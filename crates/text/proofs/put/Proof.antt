@@ -1,11 +1,11 @@
--- `script::put` meets its contract: before turn i the first i bytes of the text are written. Assumes nothing.
+-- `text::put` meets its contract: before turn i the first i bytes of the text are written. Assumes nothing.
 use mathlib.Core.Path.{refl}
 use Prim.Native.Nat.{_+_, _-_}
 use native.Mathlib.Omega.{arith}
 use Rattle.lsh.specs.Tabulate.{at}
 use Rattle.engine.proofs.Places.{Placed, placed-none, placed-more, copied-all}
-use Rattle.script.proofs.put.Statement.{statement}
-use Rattle.script.proofs.put.Tie as tie
+use Rattle.text.proofs.put.Statement.{statement}
+use Rattle.text.proofs.put.Tie as tie
 
 abbrev Inv-loop : tie.InvT-loop
 Inv-loop output₀ from text n i₀ output i = Placed n (λ k. from + k) (at text) output₀ output i

@@ -1,11 +1,11 @@
--- `script::put_digits` meets its contract: before turn k the first k digits are written. Assumes nothing.
+-- `text::put_digits` meets its contract: before turn k the first k digits are written. Assumes nothing.
 use mathlib.Core.Path.{refl}
 use Prim.Native.Nat.{_+_, _-_}
 use native.Mathlib.Omega.{arith}
 use Rattle.engine.proofs.Places.{Placed, placed-none, placed-more, stored-all}
-use Rattle.script.specs.Hex.{digitAt, digitsOf}
-use Rattle.script.proofs.put_digits.Statement.{statement}
-use Rattle.script.proofs.put_digits.Tie as tie
+use Rattle.text.specs.Printed.{digitAt, digitsOf}
+use Rattle.text.proofs.put_digits.Statement.{statement}
+use Rattle.text.proofs.put_digits.Tie as tie
 
 abbrev Inv-loop : tie.InvT-loop
 Inv-loop output₀ from bytes n k₀ output k = Placed n (λ j. from + j) (digitAt bytes) output₀ output k

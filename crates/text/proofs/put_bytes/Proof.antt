@@ -1,11 +1,11 @@
--- `script::put_bytes` meets its contract. Assumes nothing.
+-- `text::put_bytes` meets its contract. Assumes nothing.
 use mathlib.Core.Path.{_≡_}
 use native.Mathlib.Omega.{arith}
 use lib.ListN.{length}
 use borrow.Author.Needs.{needs}
-use Rattle.script.proofs.Printing.{printed-none, printed-some, length-digits}
-use Rattle.script.proofs.put_bytes.Statement.{statement}
-use Rattle.script.proofs.put_bytes.Tie as tie
+use Rattle.text.proofs.Printing.{printed-none, printed-some, length-digits}
+use Rattle.text.proofs.put_bytes.Statement.{statement}
+use Rattle.text.proofs.put_bytes.Tie as tie
 
 pub put-bytes-spec : {M : Type 1} → statement M
 put-bytes-spec =

@@ -6,7 +6,7 @@ use Prim.Native.Nat.{ℕ, _*_}
 use lib.ListN.{length}
 use borrow.Author.Tests.{eq-eqb, ne-eqb}
 use Rattle.lsh.proofs.Tabulate.{length-tabulate}
-use Rattle.script.specs.Hex.{digitAt, digitsOf, printed}
+use Rattle.text.specs.Printed.{digitAt, digitsOf, printed}
 
 pub printed-none : (s : List ℕ) → length s ≡ 0 → printed s ≡ 45 ∷ []
 unfolding printed

@@ -1,11 +1,11 @@
--- `script::digit_at` meets its contract. Assumes nothing.
+-- `text::digit_at` meets its contract. Assumes nothing.
 use Prim.Native.Nat.{_/_}
 use native.Mathlib.Omega.{arith}
 use borrow.Author.Needs.{needs}
 use borrow.Author.Tests.{eq-eqb, ne-eqb}
-use Rattle.script.specs.Hex.{digitAt}
-use Rattle.script.proofs.digit_at.Statement.{statement}
-use Rattle.script.proofs.digit_at.Tie as tie
+use Rattle.text.specs.Printed.{digitAt}
+use Rattle.text.proofs.digit_at.Statement.{statement}
+use Rattle.text.proofs.digit_at.Tie as tie
 
 pub digit-at-spec : {M : Type 1} → statement M
 unfolding digitAt

@@ -1,9 +1,9 @@
--- `script::hex_digit` meets its contract. Assumes nothing.
+-- `text::hex_digit` meets its contract. Assumes nothing.
 use borrow.Author.Needs.{needs}
 use borrow.Author.Tests.{lt-ltb, le-ltb}
-use Rattle.script.specs.Hex.{hexDigit}
-use Rattle.script.proofs.hex_digit.Statement.{statement}
-use Rattle.script.proofs.hex_digit.Tie as tie
+use Rattle.text.specs.Printed.{hexDigit}
+use Rattle.text.proofs.hex_digit.Statement.{statement}
+use Rattle.text.proofs.hex_digit.Tie as tie
 
 pub hex-digit-spec : {M : Type 1} → statement M
 unfolding hexDigit
