@@ -94,13 +94,7 @@ pub fn place(names: &[u8], name: &[u8]) -> usize
     i
 }
 
-// Word i of a line as a number.
-pub fn number_at(line: &[u8], i: usize) -> Number
-    ensures { λ r. ⌜ r ≡ wordNumber (wordAt i (now (line .entry))) ⌝ }
-{
-    read_number(word(line, i))
-}
-
+// The number that a word says.
 pub fn read_number(word: &[u8]) -> Number
     ensures { λ r. ⌜ r ≡ wordNumber (now (word .entry)) ⌝ }
 {
@@ -150,16 +144,8 @@ fn digit_value(c: u8) -> u64
     (c - b'0') as u64
 }
 
-// Word i of a line as BYTES. The bytes are written at the output's front, if they have room there. The second clause is what lending
-// them as &output[..count] asks.
-pub fn bytes_at(line: &[u8], i: usize, output: &mut [u8]) -> Length
-    ensures { λ r. ⌜ (r ≡ wordLength (wordAt i (now (line .entry))) (length (now (output .entry)))) × (now (output .exit) ≡ written (wordAt i (now (line .entry))) (now (output .entry))) ⌝ }
-    ensures { λ r. ⌜ (r .count ≤ length (now (output .exit))) × (r .count ≡ length (take (r .count) (now (output .exit)))) ⌝ }
-{
-    read_bytes(word(line, i), output)
-}
-
-fn read_bytes(word: &[u8], output: &mut [u8]) -> Length
+// The bytes that a word says are written at the output's front, if they have room there.
+pub fn read_bytes(word: &[u8], output: &mut [u8]) -> Length
     ensures { λ r. ⌜ (r ≡ wordLength (now (word .entry)) (length (now (output .entry)))) × (r .count ≤ length (now (output .entry))) × (now (output .exit) ≡ written (now (word .entry)) (now (output .entry))) ⌝ }
 {
     if is_dash(word) {
@@ -258,7 +244,8 @@ fn decode_byte(word: &[u8], i: usize) -> u8
 }
 
 // The words of a chain, each of eight bytes, the highest first.
-pub fn chain_of(bytes: &[u8; 128]) -> [u64; 16]
+pub fn chain_of(bytes: &[u8]) -> [u64; 16]
+    requires { ⌜ length (now bytes) ≡ 128 ⌝ }
     ensures { λ r. ⌜ r ≡ tabulate 16 (λ l. highestFirst 8 (now (bytes .entry)) (8 * l)) ⌝ }
 {
     let mut chain = [0u64; 16];

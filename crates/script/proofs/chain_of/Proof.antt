@@ -23,10 +23,10 @@ chain-of-spec =
     μ-loop
     (λ c. placed-none _ _ _ _)
     (λ c. omega arith)
-    (λ c κs. let long : length (c .before .before .before .args .bytes .now) ≡ 128 = search needs in omega arith)
+    (λ c κs. omega (arith, c .before .before .before .pre))
     (λ c. omega arith)
     (λ c. omega arith)
     (λ c. omega arith)
     (λ c. omega arith)
-    (λ c. filled-more _ (c .before .before .before .loop .inv) (omega arith) (omega arith) (c .chain-word .ensures))
+    (λ c. filled-more _ (c .before .before .loop .inv) (omega arith) (omega arith) (c .chain-word .ensures))
     (λ c. filled-all (c .before .loop .inv) (omega arith) refl))

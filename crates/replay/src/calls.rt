@@ -1,0 +1,78 @@
+// The calls that lines say: a table of their forms, and the call of each.
+use crate::LINE;
+use crate::blocks;
+use crate::order;
+use crate::receipts;
+use crate::reply;
+use crate::reply::Reply;
+use crate::words;
+use crate::words::Words;
+use record::Record;
+
+// What is no call, as numbers that no kind of line has.
+const SILENT: usize = 1000;
+
+const TOO_LONG: usize = 1001;
+
+const NOT_A_CALL: usize = 1002;
+
+// Makes the call that a line of n bytes says. The table has the name and the form of each kind of line; the kinds are counted in its order.
+pub fn answer(n: usize, buffer: &[u8], r: Record, given: &mut [u8], output: &mut [u8]) -> Reply {
+    let forms =
+        b"open nn append b rewind nb close lns record - set nnnbb whole nnblns same bb tally b forward nob backward nob";
+    let m = words::least(n, buffer.len());
+    let line = &buffer[0..m];
+    let place = script::place(forms, script::word(line, 0));
+    let form = script::word(forms, std::num::wrapping_add_usize(place, 1));
+    let w = words::read(line, form, given, output);
+    let size = words::fitting(w.size, output);
+    call(
+        kind(n, line, place, w.is),
+        w,
+        r,
+        given,
+        &mut output[0..size],
+    )
+}
+
+// The kind of a line whose name has a place in the table, where every second word is a name, and whose words are those of the form or not.
+fn kind(n: usize, line: &[u8], place: usize, is: bool) -> usize {
+    if LINE < n {
+        return TOO_LONG;
+    }
+    if is_silent(line) {
+        return SILENT;
+    }
+    if !is | (place % 2 != 0) {
+        return NOT_A_CALL;
+    }
+    place / 2
+}
+
+// An empty line, or one that begins with #.
+fn is_silent(line: &[u8]) -> bool {
+    if line.len() == 0 {
+        return true;
+    }
+    line[0] == b'#'
+}
+
+fn call(kind: usize, w: Words, r: Record, given: &[u8], output: &mut [u8]) -> Reply {
+    let v = w.values;
+    match kind {
+        0 => order::open(v),
+        1 => order::append(v, r, given),
+        2 => order::rewind(v, r, given),
+        3 => order::close(v, r, output),
+        4 => order::shown(r),
+        5 => order::set(v, r, given),
+        6 => receipts::whole(v, r, given, output),
+        7 => receipts::same(v, r, given),
+        8 => receipts::tally(v, r, given),
+        9 => blocks::forward(v, r, given, output),
+        10 => blocks::backward(v, r, given, output),
+        SILENT => reply::plain(reply::NOTHING, r),
+        TOO_LONG => reply::plain(reply::TOO_LONG, r),
+        _ => reply::plain(reply::NOT_A_CALL, r),
+    }
+}

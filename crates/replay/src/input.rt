@@ -1,0 +1,117 @@
+// The lines of standard input, which is read in chunks.
+ghost use mathlib.Core.Path.{_≡_};
+ghost use Prim.Native.Nat.{_≤_};
+ghost use lib.ListN.{length};
+ghost use Rattle.replay.specs.Sizes.{roomBytes};
+use crate::LINE;
+use libc::STDERR_FILENO;
+use libc::STDIN_FILENO;
+
+// How far the input is read.
+pub struct Place {
+    // The part of the chunk that is still to be taken in.
+    pub from: usize,
+    pub to: usize,
+    // How many bytes the line has so far; more than LINE if it is too long.
+    pub begun: usize,
+    // Whether the line has ended.
+    pub ended: bool,
+    // Whether there may be more input.
+    pub more: bool,
+}
+
+pub fn start() -> Place
+    ensures { λ p. ⌜ (p .from ≡ 0) × (p .to ≡ 0) ⌝ }
+{
+    going(0, 0, 0, false)
+}
+
+fn going(from: usize, to: usize, begun: usize, ended: bool) -> Place
+    ensures { λ p. ⌜ (p .from ≡ from) × (p .to ≡ to) ⌝ }
+{
+    Place {
+        from: from,
+        to: to,
+        begun: begun,
+        ended: ended,
+        more: true,
+    }
+}
+
+// Goes on in the input: reads if the chunk is used up, else takes in what it has up to the end of a line.
+pub fn go_on(p: Place, chunk: &mut [u8], line: &mut [u8]) -> Place
+    requires { ⌜ (roomBytes ≤ length (now line)) × (p .from ≤ p .to) × (p .to ≤ length (now chunk)) ⌝ }
+    ensures { λ q. ⌜ (q .from ≤ q .to) × (q .to ≤ length (now (chunk .exit))) ⌝ }
+{
+    let begun = begun_bytes(p);
+    let from = p.from;
+    let to = p.to;
+    if from == to {
+        return read(begun, chunk);
+    }
+    take_in(begun, from, to, chunk, line)
+}
+
+// The bytes that the line has so far: none after the end of the one before.
+fn begun_bytes(p: Place) -> usize {
+    if p.ended {
+        return 0;
+    }
+    p.begun
+}
+
+// Reads once. The line that the input ends in may lack the newline.
+fn read(begun: usize, chunk: &mut [u8]) -> Place
+    ensures { λ p. ⌜ (p .from ≤ p .to) × (p .to ≤ length (now (chunk .exit))) ⌝ }
+{
+    let got = libc::read(STDIN_FILENO, chunk);
+    if got < 0 {
+        io::write_all(STDERR_FILENO, b"replay: the input cannot be read\n");
+        return last(begun, false);
+    }
+    if got == 0 {
+        return last(begun, begun != 0);
+    }
+    let n = io::count(got, chunk);
+    going(0, n, begun, false)
+}
+
+// After the last byte of the input.
+fn last(begun: usize, ended: bool) -> Place
+    ensures { λ p. ⌜ (p .from ≡ 0) × (p .to ≡ 0) ⌝ }
+{
+    Place {
+        from: 0,
+        to: 0,
+        begun: begun,
+        ended: ended,
+        more: false,
+    }
+}
+
+// Takes in the chunk's bytes from a place on, up to the first newline or to the end.
+fn take_in(begun: usize, from: usize, to: usize, chunk: &[u8], line: &mut [u8]) -> Place
+    requires { ⌜ (roomBytes ≤ length (now line)) × (from ≤ to) × (to ≤ length (now chunk)) ⌝ }
+    ensures { λ p. ⌜ (p .from ≤ p .to) × (p .to ≤ length (now (chunk .entry))) ⌝ }
+{
+    let n = script::until(&chunk[from..to], b'\n');
+    let end = from + n;
+    let size = joined(begun, &chunk[from..end], line);
+    if end == to {
+        return going(to, to, size, false);
+    }
+    going(end + 1, to, size, true)
+}
+
+// The bytes that the line has with the piece, which is copied to its end. Of a line that is too long nothing more is kept.
+fn joined(begun: usize, piece: &[u8], line: &mut [u8]) -> usize
+    requires { ⌜ roomBytes ≤ length (now line) ⌝ }
+{
+    if LINE < begun {
+        return begun;
+    }
+    if LINE - begun < piece.len() {
+        return LINE + 1;
+    }
+    text::put(line, begun, piece)
+}

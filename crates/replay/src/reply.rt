@@ -1,0 +1,241 @@
+// What a line prints.
+ghost use Prim.Native.Nat.{_+_, _<_, _≤_};
+ghost use lib.ListN.{length};
+ghost use Rattle.replay.specs.Sizes.{lineBytes, stringBytes, roomBytes};
+use crate::LINE;
+use crate::words;
+use libc::STDERR_FILENO;
+use libc::STDOUT_FILENO;
+use record::Record;
+
+// What comes behind the name of a line and its numbers: nothing, yes, no, the output, or the words of the record.
+pub const NAME: u32 = 0;
+
+const YES: u32 = 1;
+
+const NO: u32 = 2;
+
+const OUTPUT: u32 = 3;
+
+const RECORD: u32 = 4;
+
+// A line that prints nothing, and those that are no call.
+pub const NOTHING: u32 = 5;
+
+pub const TOO_LONG: u32 = 6;
+
+pub const NOT_A_CALL: u32 = 7;
+
+// The answer to a line: what it prints, with the first count of the numbers and the first size bytes of the output, and the record that is kept.
+pub struct Reply {
+    what: u32,
+    count: usize,
+    numbers: [u64; 4],
+    size: u64,
+    pub next: Record,
+}
+
+fn reply_of(what: u32, count: usize, numbers: [u64; 4], size: u64, r: Record) -> Reply {
+    let x = numbers;
+    Reply {
+        what: what,
+        count: count,
+        numbers: x,
+        size: size,
+        next: r,
+    }
+}
+
+pub fn plain(what: u32, r: Record) -> Reply {
+    reply_of(what, 0, [0, 0, 0, 0], 0, r)
+}
+
+pub fn numbers(count: usize, numbers: [u64; 4], r: Record) -> Reply {
+    reply_of(NAME, count, numbers, 0, r)
+}
+
+pub fn number(number: u32, r: Record) -> Reply {
+    numbers(1, [number as u64, 0, 0, 0], r)
+}
+
+pub fn count(number: u32, count: u64, r: Record) -> Reply {
+    numbers(2, [number as u64, count, 0, 0], r)
+}
+
+// A yes or a no, which only 0 comes with.
+pub fn truth(number: u32, is: bool, r: Record) -> Reply {
+    if number != 0 {
+        return numbers(1, [number as u64, 0, 0, 0], r);
+    }
+    if is {
+        return reply_of(YES, 1, [0, 0, 0, 0], 0, r);
+    }
+    reply_of(NO, 1, [0, 0, 0, 0], 0, r)
+}
+
+// The first size bytes of the output.
+pub fn output(number: u32, size: u64, r: Record) -> Reply {
+    reply_of(OUTPUT, 1, [number as u64, 0, 0, 0], size, r)
+}
+
+pub fn record(r: Record) -> Reply {
+    reply_of(RECORD, 3, [r.w, r.n, r.total, 0], 0, r)
+}
+
+// Prints what line k prints, which has n bytes and stands in line. Answers whether that went well.
+pub fn print(n: usize, line: &mut [u8], k: u64, c: Reply, output: &[u8]) -> bool
+    requires { ⌜ (roomBytes ≤ length (now line)) × (length (now output) ≤ stringBytes) ⌝ }
+{
+    if c.what == NOTHING {
+        return true;
+    }
+    let end = put_line(n, line, k, c, output);
+    write(line, end)
+}
+
+// Writes the first n bytes of line and a newline, in one call where the system takes them all. Answers whether that went well.
+fn write(line: &mut [u8], n: usize) -> bool
+    requires { ⌜ n < length (now line) ⌝ }
+{
+    let end = text::put(line, n, b"\n");
+    if io::write_all(STDOUT_FILENO, &line[0..end]) {
+        return true;
+    }
+    io::write_all(STDERR_FILENO, b"replay: the output cannot be written\n");
+    false
+}
+
+// Puts what is printed into line, and returns the place after it, as the following do.
+fn put_line(n: usize, line: &mut [u8], k: u64, c: Reply, output: &[u8]) -> usize
+    requires { ⌜ (roomBytes ≤ length (now line)) × (length (now output) ≤ stringBytes) ⌝ }
+    ensures { λ r. ⌜ r < roomBytes ⌝ }
+{
+    let what = c.what;
+    match what {
+        TOO_LONG => put_fault(line, k, b": too long"),
+        NOT_A_CALL => put_fault(line, k, b": not a call"),
+        _ => put_reply(n, line, c, output),
+    }
+}
+
+// What is wrong with line k.
+fn put_fault(line: &mut [u8], k: u64, fault: &[u8]) -> usize
+    requires { ⌜ (roomBytes ≤ length (now line)) × (length (now fault) ≤ 16) ⌝ }
+    ensures { λ r. ⌜ r < roomBytes ⌝ }
+{
+    let a = text::put(line, 0, b"line ");
+    let b = put_number(line, a, k);
+    text::put(line, b, fault)
+}
+
+// The name of the line, behind which the rest is put.
+fn put_reply(n: usize, line: &mut [u8], c: Reply, output: &[u8]) -> usize
+    requires { ⌜ (roomBytes ≤ length (now line)) × (length (now output) ≤ stringBytes) ⌝ }
+    ensures { λ r. ⌜ r < roomBytes ⌝ }
+{
+    let m = words::least(n, LINE);
+    let name = script::until(&line[0..m], b' ');
+    let numbers = c.numbers;
+    let at = put_numbers(line, name, c.count, numbers);
+    put_rest(line, at, c, output)
+}
+
+// The first count of the numbers, a space before each.
+fn put_numbers(line: &mut [u8], from: usize, count: usize, numbers: [u64; 4]) -> usize
+    requires { ⌜ from + 84 ≤ length (now line) ⌝ }
+    ensures { λ r. ⌜ r ≤ from + 84 ⌝ }
+{
+    let x = numbers;
+    let n = words::least(count, 4);
+    let mut at = from;
+    for i in 0..n {
+        at = put_next(line, at, x[i]);
+    }
+    at
+}
+
+fn put_next(line: &mut [u8], from: usize, x: u64) -> usize
+    requires { ⌜ from + 21 ≤ length (now line) ⌝ }
+    ensures { λ r. ⌜ r ≤ from + 21 ⌝ }
+{
+    let a = text::put(line, from, b" ");
+    put_number(line, a, x)
+}
+
+fn put_number(line: &mut [u8], from: usize, x: u64) -> usize
+    requires { ⌜ from + 20 ≤ length (now line) ⌝ }
+    ensures { λ r. ⌜ r ≤ from + 20 ⌝ }
+{
+    let mut digits = [0u8; 20];
+    let k = io::decimal(x, &mut digits);
+    text::put(line, from, &digits[..k])
+}
+
+// What comes behind the numbers.
+fn put_rest(line: &mut [u8], from: usize, c: Reply, output: &[u8]) -> usize
+    requires { ⌜ (roomBytes ≤ length (now line)) × (from ≤ lineBytes + 84) × (length (now output) ≤ stringBytes) ⌝ }
+    ensures { λ r. ⌜ r < roomBytes ⌝ }
+{
+    let what = c.what;
+    match what {
+        YES => text::put(line, from, b" yes"),
+        NO => text::put(line, from, b" no"),
+        OUTPUT => put_output(line, from, c.size, output),
+        RECORD => put_record(line, from, c.next),
+        _ => from,
+    }
+}
+
+fn put_output(line: &mut [u8], from: usize, size: u64, output: &[u8]) -> usize
+    requires { ⌜ (roomBytes ≤ length (now line)) × (from ≤ lineBytes + 84) × (length (now output) ≤ stringBytes) ⌝ }
+    ensures { λ r. ⌜ r < roomBytes ⌝ }
+{
+    let n = words::fitting(size, output);
+    put_bytes(line, from, &output[0..n])
+}
+
+// A space and bytes.
+fn put_bytes(line: &mut [u8], from: usize, s: &[u8]) -> usize
+    requires { ⌜ from + 2 + length (now s) + length (now s) ≤ length (now line) ⌝ }
+    ensures { λ r. ⌜ r ≤ from + 2 + length (now (s .entry)) + length (now (s .entry)) ⌝ }
+{
+    let a = text::put(line, from, b" ");
+    text::put_bytes(line, a, s)
+}
+
+// The chain and the held bytes of the record.
+fn put_record(line: &mut [u8], from: usize, r: Record) -> usize
+    requires { ⌜ (roomBytes ≤ length (now line)) × (from ≤ lineBytes + 84) ⌝ }
+    ensures { λ e. ⌜ e < roomBytes ⌝ }
+{
+    let chain = r.chain;
+    let a = put_chain(line, from, chain);
+    let held = r.held;
+    put_held(line, a, held)
+}
+
+// A space and the words of a chain, sixteen digits each.
+fn put_chain(line: &mut [u8], from: usize, chain: [u64; 16]) -> usize
+    requires { ⌜ from + 258 ≤ length (now line) ⌝ }
+    ensures { λ r. ⌜ r ≤ from + 258 ⌝ }
+{
+    let s = chain_bytes(chain);
+    put_bytes(line, from, &s)
+}
+
+// The bytes of a chain's words, the highest first.
+fn chain_bytes(chain: [u64; 16]) -> [u8; 128] {
+    let t = chain;
+    let mut r = [0u8; 128];
+    for i in 0..128usize {
+        r[i] = word64::byte(t[i / 8], (7 - i % 8) as u32);
+    }
+    r
+}
+
+fn put_held(line: &mut [u8], from: usize, held: [u8; 256]) -> usize
+    requires { ⌜ from + 514 ≤ length (now line) ⌝ }
+    ensures { λ r. ⌜ r ≤ from + 514 ⌝ }
+{
+    put_bytes(line, from, &held)
+}
