@@ -1,0 +1,16 @@
+-- `steps256::unstep` meets its contract. Assumes nothing.
+use borrow.Author.Needs.{needs}
+use Rattle.lsh.specs.WordSize.{lsh256}
+use Rattle.lsh.specs.Step.{unstep}
+use Rattle.steps256.proofs.unstep.Statement.{statement}
+use Rattle.steps256.proofs.unstep.Tie as tie
+
+pub unstep-spec : {M : Type 1} → statement M
+unfolding unstep lsh256
+unstep-spec =
+    tie.close
+    (tie.spec
+    (λ c κs. search needs)
+    (λ c κs. search needs)
+    (λ c κs. search needs)
+    (λ c. cc))

@@ -1,0 +1,16 @@
+-- `steps512::unstep` meets its contract. Assumes nothing.
+use borrow.Author.Needs.{needs}
+use Rattle.lsh.specs.WordSize.{lsh512}
+use Rattle.lsh.specs.Step.{unstep}
+use Rattle.steps512.proofs.unstep.Statement.{statement}
+use Rattle.steps512.proofs.unstep.Tie as tie
+
+pub unstep-spec : {M : Type 1} → statement M
+unfolding unstep lsh512
+unstep-spec =
+    tie.close
+    (tie.spec
+    (λ c κs. search needs)
+    (λ c κs. search needs)
+    (λ c κs. search needs)
+    (λ c. cc))
