@@ -17,4 +17,4 @@ mix-lane-spec =
     (λ c κs. search needs)
     (λ c κs. search needs)
     (λ c κs. search needs)
-    (λ c. cc))
+    (λ c. rw (c .rotate-left3 .ensures, c .before .add3 .ensures, c .before .before .rotate-left2 .ensures, c .before .before .before .add2 .ensures, c .before .before .before .before .exclusive-or .ensures, c .before .before .before .before .before .rotate-left .ensures, c .before .before .before .before .before .before .add .ensures)))

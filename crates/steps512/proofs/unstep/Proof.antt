@@ -1,12 +1,12 @@
 -- `steps512::unstep` meets its contract. Assumes nothing.
 use borrow.Author.Needs.{needs}
-use Rattle.lsh.specs.WordSize.{lsh512}
 use Rattle.lsh.specs.Step.{unstep}
 use Rattle.steps512.proofs.unstep.Statement.{statement}
 use Rattle.steps512.proofs.unstep.Tie as tie
 
+-- `cc` names no call, so that an edit which calls another function is refused at the equation.
 pub unstep-spec : {M : Type 1} → statement M
-unfolding unstep lsh512
+unfolding unstep
 unstep-spec =
     tie.close
     (tie.spec
