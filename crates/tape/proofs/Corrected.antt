@@ -11,17 +11,16 @@ use lib.Dec.{ltb}
 use lib.ListN.{length}
 use Rattle.lsh.specs.WordSize.{isWordSize, sizeOf, blockBytes}
 use Rattle.runs.specs.Limits.{isDigestLength, limit}
-use Rattle.record.specs.declared.Record.{Record}
 use Rattle.record.specs.declared.Outcome.{Outcome}
 use Rattle.record.specs.Record.{zeros, recordOf}
 use Rattle.record.specs.Calls.{refused, opened, openCall}
 use Rattle.record.proofs.Joins.{record-none}
 use Rattle.rewind.specs.Rewind.{startsOffBlock, keepsTooMuch}
-use Rattle.tape.specs.Sequence.{Given, after, answers}
+use Rattle.tape.specs.Sequence.{Given, answers}
 use Rattle.tape.specs.Tape.{wholeBlocks, stays, tapeAppend, tapeRewind}
 use Rattle.tape.specs.Calls.{Call, Append, Rewind, recordCall, tapeCall, HandsBack, forwardCount, backwardCount}
 use Rattle.tape.specs.Corrected.{recordAfter, recordAnswers, tapeAfter, tapeAnswers, Premise, Corrected, byLength, allByLength}
-use Rattle.tape.proofs.Simulation.{followed, good-after, same-answers, same-state, counts}
+use Rattle.tape.proofs.Simulation.{followed, good-after, calls-follow-function, counts}
 use Rattle.tape.proofs.Steps.{either, Kept, append-kept, append-count, append-step, rewind-kept, rewind-count, rewind-step}
 
 -- each call, by its kind
@@ -81,18 +80,22 @@ module _ (w n : ℕ) (cs : List Call) (accepted : openCall w n .number ≡ 0) wh
   unfolding tapeAfter
   tape-kept = good-after (tapeCall w) Kept (call-kept w) cs [] empty-kept
 
+  -- from the newly opened record on, which is that of the empty tape
+  record-follows : Premise w cs → (recordAnswers w n cs ≡ tapeAnswers w cs) × (recordAfter w n cs ≡ recordOf w n (tapeAfter w cs))
+  unfolding Premise recordAnswers recordAfter tapeAnswers tapeAfter
+  record-follows h =
+      calls-follow-function (tapeCall w) Kept (call-kept w) recordCall (HandsBack w) (recordOf w n) (call-step w n word digest)
+      cs (openCall w n .next) [] open-record empty-kept h
+
   pub corrected : Premise w cs → Corrected w n cs
-  unfolding Premise recordAnswers recordAfter tapeAnswers tapeAfter wholeBlocks
+  unfolding tapeAnswers tapeAfter wholeBlocks
   corrected h =
-      let same : answers recordCall (openCall w n .next) cs ≡ answers (tapeCall w) [] cs =
-      ap (λ (r : Record). answers recordCall r cs) open-record
-      ∙ same-answers (tapeCall w) Kept (call-kept w) recordCall (recordOf w n) (HandsBack w) (call-step w n word digest) cs [] empty-kept h in
       record {
-        agree = same;
-        remains =
-            ap (λ (r : Record). after recordCall r cs) open-record
-            ∙ same-state (tapeCall w) Kept (call-kept w) recordCall (recordOf w n) (HandsBack w) (call-step w n word digest) cs [] empty-kept h;
-        blocks = rw same (omega (arith, counts (tapeCall w) forwardCount backwardCount (wholeBlocks w) (call-count w word) cs [], zero-div (blockBytes (sizeOf w))));
+        agree = record-follows h .0;
+        remains = record-follows h .1;
+        blocks =
+            rw (record-follows h .0)
+            (omega (arith, counts (tapeCall w) forwardCount backwardCount (wholeBlocks w) (call-count w word) cs [], zero-div (blockBytes (sizeOf w))));
       }
 
   -- so 3, 8 and 9 are never given

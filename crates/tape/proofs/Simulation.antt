@@ -1,5 +1,10 @@
--- Where each call on the state of s answers as the call on s does, and leaves the state of what that leaves, every list of calls does. And where
--- each call moves a sum as it moves its two counts, every list of calls does.
+-- Two machines take the same calls: the plain tape, and the calls of the module, which keep something else from call to call. What they keep need
+-- not be a function of the tape: a buffer that the caller lends may have old bytes in the places that are not in use. So the induction goes over a
+-- relation, Shows r s: what is kept, r, shows what is on the tape, s. Where each call on an r that shows s answers as the tape does, and leaves what
+-- shows the tape that is left, every list of calls does. Where what is kept is a function of the tape, as a record is, one equation for each
+-- call says both.
+-- What holds of the tape alone, whatever bytes are handed back, is said apart from that: where each call keeps Good, every list of calls does; and
+-- where each call moves a sum as it moves its two counts, every list of calls does.
 -- Assumes nothing.
 use mathlib.Core.Path.{_≡_, refl, ap}
 use mathlib.Core.List.{List, [], _∷_}
@@ -7,29 +12,42 @@ use Prim.Native.Nat.{ℕ, _+_}
 use native.Mathlib.Omega.{arith}
 use Rattle.tape.specs.Sequence.{Answer, Given, after, answers, Throughout, sum}
 
--- the same answer, and the state of what is left
+-- one call: the same answer, and what is left shows the tape that is left
+pub record Follows {S R : Type 0} (Shows : R → S → Type 0) (g : Given R) (t : Given S) : Type 0 where
+  pub same : g .answer ≡ t .answer
+  pub shows : Shows (g .next) (t .next)
+
+-- and where what is kept is a function of the tape, the same answer and that function of the tape that is left
 abbrev pub followed : {S R : Type 0} → (S → R) → Given S → Given R
-followed of g = record { answer = g .answer; next = of (g .next) }
+followed of t = record { answer = t .answer; next = of (t .next) }
 
 module _ {S C : Type 0} (tape : S → C → Given S) (Good : S → Type 0) (keeps : (s : S) (c : C) → Good s → Good (tape s c .next)) where
   pub good-after : (cs : List C) (s : S) → Good s → Good (after tape s cs)
   good-after [] s good = good
   good-after (c ∷ cs) s good = good-after cs (tape s c .next) (keeps s c good)
 
-  module _
-      {R : Type 0}
-      (call : R → C → Given R)
-      (of : S → R)
-      (Premise : S → C → Type 0)
-      (step : (s : S) (c : C) → Good s → Premise s c → call (of s) c ≡ followed of (tape s c)) where
-    pub same-answers : (cs : List C) (s : S) → Good s → Throughout tape Premise s cs → answers call (of s) cs ≡ answers tape s cs
-    same-answers [] s good h = refl
-    same-answers (c ∷ cs) s good h =
-        rw (step s c good (h .0)) (ap (λ (rest : List Answer). tape s c .answer ∷ rest) (same-answers cs (tape s c .next) (keeps s c good) (h .1)))
+  module _ {R : Type 0} (call : R → C → Given R) (Premise : S → C → Type 0) where
+    -- the induction
+    module _
+        (Shows : R → S → Type 0)
+        (step : (r : R) (s : S) (c : C) → Shows r s → Good s → Premise s c → Follows Shows (call r c) (tape s c)) where
+      pub calls-follow : (cs : List C) (r : R) (s : S) → Shows r s → Good s → Throughout tape Premise s cs
+          → (answers call r cs ≡ answers tape s cs) × Shows (after call r cs) (after tape s cs)
+      calls-follow [] r s shows good h = (refl, shows)
+      calls-follow (c ∷ cs) r s shows good h =
+          let first = step r s c shows good (h .0) in
+          let rest = calls-follow cs (call r c .next) (tape s c .next) (first .shows) (keeps s c good) (h .1) in
+          (λ i. first .same i ∷ rest .0 i, rest .1)
 
-    pub same-state : (cs : List C) (s : S) → Good s → Throughout tape Premise s cs → after call (of s) cs ≡ of (after tape s cs)
-    same-state [] s good h = refl
-    same-state (c ∷ cs) s good h = rw (step s c good (h .0)) (same-state cs (tape s c .next) (keeps s c good) (h .1))
+    -- its case of a function of the tape
+    module _ (of : S → R) (step : (s : S) (c : C) → Good s → Premise s c → call (of s) c ≡ followed of (tape s c)) where
+      pub calls-follow-function : (cs : List C) (r : R) (s : S) → r ≡ of s → Good s → Throughout tape Premise s cs
+          → (answers call r cs ≡ answers tape s cs) × (after call r cs ≡ of (after tape s cs))
+      calls-follow-function =
+          calls-follow (λ r s. r ≡ of s)
+          (λ r s c is good h.
+          let both : call r c ≡ followed of (tape s c) = rw is (step s c good h) in
+          record { same = ap (λ (g : Given R). g .answer) both; shows = ap (λ (g : Given R). g .next) both })
 
 module _
     {S C : Type 0}
