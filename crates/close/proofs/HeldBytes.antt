@@ -2,8 +2,8 @@
 -- Assumes nothing.
 use mathlib.Core.Path.{_≡_, sym, ap}
 use mathlib.Core.Bool.{true}
-use mathlib.Core.List.{List, [], _∷_, _++_}
-use Prim.Native.Nat.{ℕ, zero, suc, _-_, _*_, _%_, _≤_, _<_}
+use mathlib.Core.List.{List, _∷_, _++_}
+use Prim.Native.Nat.{ℕ, _-_, _*_, _%_, _≤_, _<_}
 use native.Mathlib.Nat.{mod-lt}
 use native.Mathlib.Omega.{arith}
 use lib.ListN.{length, take, replicate}
@@ -11,23 +11,16 @@ use Rattle.lsh.specs.WordSize.{WordSize, isWordSize, sizeOf, blockBytes}
 use Rattle.lsh.specs.Block.{Chain, forwards}
 use Rattle.lsh.specs.Padding.{blocksOf}
 use Rattle.lsh.proofs.Figures.{block-is}
-use Rattle.lsh.proofs.Bytes.{Bytes}
+use Rattle.lsh.proofs.Bytes.{Bytes, bytes-take}
 use Rattle.record.specs.declared.Record.{Record}
 use Rattle.record.specs.Record.{sound, heldBytes}
 use Rattle.runs.proofs.Sizes.{bytes-some, bytes-most}
 use Rattle.record.proofs.Sound.{sounds, chain-is}
 use Rattle.record.proofs.Held.{fill-lt, held-length}
 
--- the first bytes of a byte string
-take-bytes : (k : ℕ) (s : List ℕ) → Bytes s → Bytes (take k s)
-take-bytes zero s h i = omega arith
-take-bytes (suc k) [] h i = h i
-take-bytes (suc k) (x ∷ s) h zero = h 0
-take-bytes (suc k) (x ∷ s) h (suc i) = take-bytes k s (λ j. h (suc j)) i
-
 pub held-bytes : (r : Record) → Bytes (r .held) → Bytes (heldBytes r)
 unfolding heldBytes
-held-bytes r h = take-bytes (r .total % blockBytes (sizeOf (r .w))) (r .held) h
+held-bytes r h = bytes-take (r .total % blockBytes (sizeOf (r .w))) (r .held) h
 
 module _ (r : Record) (ok : sound r ≡ true) where
   abbrev Z : WordSize

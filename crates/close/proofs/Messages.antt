@@ -1,15 +1,15 @@
 -- Close on the record of a message is Whole on the message: the answers, the digests and the outputs are the same.
 -- Assumes nothing.
-use mathlib.Core.Path.{_≡_, refl, sym, ap, _∙_, subst}
+use mathlib.Core.Path.{_≡_, refl, sym, ap, _∙_}
 use mathlib.Core.Bool.{Bool, true, false, cond}
 use mathlib.Core.List.{List, _∷_, _++_}
-use Prim.Native.Nat.{ℕ, _+_, _-_, _*_, _/_, _%_, _≤_, _<_}
+use Prim.Native.Nat.{ℕ, _+_, _-_, _*_, _%_, _≤_, _<_}
 use native.Mathlib.Nat.{mod-mod}
 use native.Mathlib.Omega.{arith}
 use borrow.Author.Tests.{le-ltb, eqb-true, eq-eqb}
 use lib.Dec.{eqb}
 use lib.ListN.{length, take, drop, replicate}
-use lib.Seq.{length-take-le, getD-drop}
+use lib.Seq.{length-take-le}
 use Rattle.lsh.specs.WordSize.{WordSize, isWordSize, sizeOf, blockBytes}
 use Rattle.lsh.specs.Block.{forwards}
 use Rattle.lsh.specs.Opening.{opening}
@@ -19,7 +19,7 @@ use Rattle.lsh.specs.Hash.{digest, hash, lsh}
 use Rattle.lsh.proofs.Figures.{block-some}
 use Rattle.lsh.proofs.Bytes.{Bytes}
 use Rattle.lsh.proofs.Blocks.{forwards-append}
-use Rattle.lsh.proofs.Padding.{length-rest, blocks-append}
+use Rattle.lsh.proofs.Padding.{length-rest, rest-bytes, blocks-append}
 use Rattle.message.proofs.Padded.{padded-rest}
 use Rattle.runs.specs.Limits.{isDigestLength, limit}
 use Rattle.record.specs.declared.Record.{Record}
@@ -30,12 +30,6 @@ use Rattle.finalization.specs.Ending.{messageBits}
 use Rattle.whole.specs.Whole.{wholeAnswer, wholeOutput}
 use Rattle.whole.proofs.Answers.{accepted}
 use Rattle.close.specs.Close.{closeAnswer, closedDigest, closeOutput}
-
-rest-bytes : (z : WordSize) (m : List ℕ) → Bytes m → Bytes (restOf z m)
-unfolding restOf
-rest-bytes z m h i =
-    let k : ℕ = length m / blockBytes z * blockBytes z in
-    subst (λ (x : ℕ). x < 256) (sym (getD-drop k m i 0)) (h (k + i))
 
 extra-few : (last e : ℕ) → e ≤ 7 → length (take e (bitsOfByte last)) ≤ 7
 unfolding bitsOfByte

@@ -1,7 +1,7 @@
 -- The test of two lists says that they are the same list; and what a loop over both lists asks for.
 -- Assumes nothing.
 use mathlib.Core.Path.{_≡_, refl, ap, ap₂, _∙_}
-use mathlib.Core.Bool.{Bool, true, false, _&&_, false≢true}
+use mathlib.Core.Bool.{true, false, _&&_, false≢true}
 use mathlib.Core.List.{List, [], _∷_}
 use Prim.Native.Nat.{ℕ, suc, _+_, _≤_, _<_}
 use native.Mathlib.Numerals.{add-one}
@@ -9,7 +9,7 @@ use lib.Dec.{eqb}
 use lib.ListN.{length, drop, getD, drop-of-length-le}
 use lib.Seq.{drop-cons}
 use borrow.Author.Tests.{eqb-true, eq-eqb, ne-eqb}
-use Rattle.lsh.proofs.Tests.{and-true}
+use Rattle.lsh.proofs.Tests.{and-true, and-false}
 use Rattle.equal.specs.Equal.{equal}
 
 pub equal-self : (s : List ℕ) → equal s s ≡ true
@@ -28,11 +28,7 @@ pub equal-length : (s t : List ℕ) → (length s ≡ length t → ⊥) → equa
 equal-length [] [] differ = absurd (differ refl)
 equal-length [] (y ∷ ys) differ = refl
 equal-length (x ∷ xs) [] differ = refl
-equal-length (x ∷ xs) (y ∷ ys) differ = rw (equal-length xs ys (λ e. differ (ap suc e))) (and-no (eqb x y))
-  where
-    and-no : (b : Bool) → (b && false) ≡ false
-    and-no true = refl
-    and-no false = refl
+equal-length (x ∷ xs) (y ∷ ys) differ = rw (equal-length xs ys (λ e. differ (ap suc e))) (and-false (eqb x y))
 
 -- what a loop over both lists has tested before place i: the answer is that of the places from i on
 abbrev pub Tested : List ℕ → List ℕ → ℕ → Type 0

@@ -2,14 +2,15 @@
 -- Assumes nothing.
 use mathlib.Core.Path.{_≡_, refl, sym, ap, ap₂, _∙_, subst}
 use mathlib.Core.Bool.{Bool, true, false}
-use mathlib.Core.List.{List}
+use mathlib.Core.List.{List, [], _∷_, _++_}
 use Prim.Native.Nat.{ℕ, zero, suc, _+_, _*_, _/_, _%_, _^_, _<_}
 use native.Mathlib.Nat.{add-zero, mod-lt, div-one, div-add-mod', div-lt-iff-lt-mul, not-suc-le-zero, le-of-suc-le-suc}
 use native.Mathlib.Omega.{arith}
 use lib.Arith.{lt-one, digits-lt, digits-div, digits-mod}
 use lib.Pow.{pow-add, shr-shr}
 use lib.Dec.{eqb}
-use lib.ListN.{length}
+use lib.ListN.{length, take, drop}
+use lib.Seq.{getD-drop}
 use Rattle.lsh.specs.Tabulate.{at}
 use Rattle.lsh.specs.WordSize.{WordSize, lsh256, lsh512, sizeOf, wordBytes, chainBytes}
 use Rattle.lsh.specs.Bytes.{wordAt, wordsOf, byteAt, bytesOf}
@@ -41,6 +42,21 @@ octets w = go (eqb w 64)
 -- each place of a byte string is below 256 (a place past the end reads as 0)
 abbrev pub Bytes : List ℕ → Type 0
 Bytes s = (i : ℕ) → at s i < 256
+
+-- bytes joined and cut are bytes
+pub bytes-append : (s p : List ℕ) → Bytes s → Bytes p → Bytes (s ++ p)
+bytes-append [] p hs hp i = hp i
+bytes-append (x ∷ xs) p hs hp zero = hs 0
+bytes-append (x ∷ xs) p hs hp (suc i) = bytes-append xs p (λ j. hs (suc j)) hp i
+
+pub bytes-take : (k : ℕ) (s : List ℕ) → Bytes s → Bytes (take k s)
+bytes-take zero s h i = omega arith
+bytes-take (suc k) [] h i = h i
+bytes-take (suc k) (x ∷ xs) h zero = h 0
+bytes-take (suc k) (x ∷ xs) h (suc i) = bytes-take k xs (λ j. h (suc j)) i
+
+pub bytes-drop : (k : ℕ) (s : List ℕ) → Bytes s → Bytes (drop k s)
+bytes-drop k s h i = rw (getD-drop k s i 0) (h (k + i))
 
 byte-zero : (x : ℕ) → byteAt x 0 ≡ x % 256
 unfolding byteAt

@@ -11,6 +11,7 @@ use lib.Seq.{drop-drop, take-all, take-append-le, drop-append-le}
 use Rattle.lsh.specs.WordSize.{WordSize, blockBytes}
 use Rattle.lsh.specs.Bytes.{wordsOf}
 use Rattle.lsh.specs.Padding.{firstBlocks, blocksOf, restOf}
+use Rattle.lsh.proofs.Bytes.{Bytes, bytes-drop}
 
 -- block k of a byte string
 abbrev pub blockAt : WordSize → List ℕ → ℕ → List ℕ
@@ -40,6 +41,11 @@ firstBlocks-front z (suc k) s p h =
     rw (take-append-le B s p l, drop-append-le B s p l)
     (ap (λ (bs : List (List ℕ)). wordsOf z 32 (take B s) ∷ bs)
     (firstBlocks-front z k (drop B s) p (omega (arith, suc-mul k B, length-drop B s))))
+
+-- what is left of bytes is bytes
+pub rest-bytes : (z : WordSize) (s : List ℕ) → Bytes s → Bytes (restOf z s)
+unfolding restOf
+rest-bytes z s h = bytes-drop (length s / blockBytes z * blockBytes z) s h
 
 module _ (z : WordSize) (some : 0 < blockBytes z) where
   pub length-rest : (s : List ℕ) → length (restOf z s) ≡ length s % blockBytes z

@@ -14,6 +14,10 @@ pub and-true : (p q : Bool) → p && q ≡ true → (p ≡ true) × (q ≡ true)
 and-true true q e = (refl, e)
 and-true false q e = absurd (false≢true e)
 
+pub and-false : (p : Bool) → p && false ≡ false
+and-false true = refl
+and-false false = refl
+
 pub and-left : (a b : Bool) → T (a && b) → T a
 and-left true b t = tt
 and-left false b t = t

@@ -1,7 +1,7 @@
 -- What a word says: a number read from its front, and bytes.
 -- Assumes nothing.
-use mathlib.Core.Path.{_≡_, refl, sym, _∙_}
-use mathlib.Core.Bool.{Bool, true, false, not, _&&_, cond}
+use mathlib.Core.Path.{_≡_, sym, _∙_}
+use mathlib.Core.Bool.{true, false, not, _&&_, cond}
 use mathlib.Core.List.{List, [], _∷_}
 use Prim.Native.Nat.{ℕ, zero, suc, _+_, _-_, _*_, _/_, _%_, _^_, _≤_, _<_}
 use native.Mathlib.Nat.{le-refl, le-trans, not-suc-le-zero, le-of-suc-le-suc}
@@ -13,7 +13,7 @@ use lib.Seq.{drop-cons, sets}
 use borrow.Author.Tests.{eq-eqb, ne-eqb, lt-ltb, le-ltb, leb-true, le-leb, lt-leb}
 use Rattle.lsh.specs.Tabulate.{at, tabulate}
 use Rattle.lsh.proofs.Tabulate.{length-tabulate}
-use Rattle.lsh.proofs.Tests.{and-true}
+use Rattle.lsh.proofs.Tests.{and-true, and-false}
 use Rattle.script.specs.declared.Number.{Number}
 use Rattle.script.specs.Numbers.{isDigit, allDigits, valueAfter, isNumber, noNumber, wordNumber}
 use Rattle.script.specs.Hex.{isHexDigit, allHex, byteOf, isDash, isHexBytes, isBytes, wordBytes, noLength, wordLength, written}
@@ -40,10 +40,6 @@ number-some s ne = rw (ne-eqb (length s) 0 ne)
 value-grows : (x : ℕ) (s : List ℕ) → x ≤ valueAfter x s
 value-grows x [] = le-refl x
 value-grows x (c ∷ s) = le-trans (omega arith) (value-grows (10 * x + (c - 48)) s)
-
-and-false : (p : Bool) → (p && false) ≡ false
-and-false true = refl
-and-false false = refl
 
 too-large : (x : ℕ) (s : List ℕ) → 2 ^ 64 ≤ x → numberAfter x s ≡ noNumber
 too-large x s h = rw (le-ltb (valueAfter x s) (2 ^ 64) (le-trans h (value-grows x s)), and-false (allDigits s))

@@ -2,8 +2,8 @@
 -- Assumes nothing.
 use mathlib.Core.Path.{_≡_, refl, sym, ap, _∙_}
 use mathlib.Core.Bool.{Bool, true, false, cond}
-use mathlib.Core.List.{List, [], _∷_, _++_}
-use Prim.Native.Nat.{ℕ, zero, suc, _+_, _-_, _*_, _/_, _%_, _≤_, _<_}
+use mathlib.Core.List.{List, [], _++_}
+use Prim.Native.Nat.{ℕ, _+_, _-_, _*_, _/_, _%_, _≤_, _<_}
 use native.Mathlib.Nat.{div-add-mod', mul-add-div-right, div-eq-of-lt}
 use native.Mathlib.Omega.{arith}
 use lib.Dec.{eqb, ltb}
@@ -15,7 +15,7 @@ use Rattle.lsh.specs.Block.{forwards, backwards}
 use Rattle.lsh.specs.Opening.{opening}
 use Rattle.lsh.specs.Padding.{blocksOf, restOf}
 use Rattle.lsh.proofs.Figures.{amounts, block-some}
-use Rattle.lsh.proofs.Bytes.{Bytes}
+use Rattle.lsh.proofs.Bytes.{Bytes, bytes-append, bytes-take}
 use Rattle.lsh.proofs.Blocks.{forwards-chain, backwards-forwards, forwards-append}
 use Rattle.lsh.proofs.Padding.{blocks-short}
 use Rattle.runs.specs.Limits.{isDigestLength, limit}
@@ -41,17 +41,6 @@ same-choice f g false h k = k refl
 pub either : {A : Type 0} (P : A → Type 0) (t : Bool) {u v : A} → (t ≡ true → P u) → (t ≡ false → P v) → P (cond t u v)
 either P true h k = h refl
 either P false h k = k refl
-
-bytes-append : (s p : List ℕ) → Bytes s → Bytes p → Bytes (s ++ p)
-bytes-append [] p hs hp i = hp i
-bytes-append (x ∷ xs) p hs hp zero = hs 0
-bytes-append (x ∷ xs) p hs hp (suc i) = bytes-append xs p (λ j. hs (suc j)) hp i
-
-bytes-take : (k : ℕ) (s : List ℕ) → Bytes s → Bytes (take k s)
-bytes-take zero s h i = omega arith
-bytes-take (suc k) [] h i = h i
-bytes-take (suc k) (x ∷ xs) h zero = h 0
-bytes-take (suc k) (x ∷ xs) h (suc i) = bytes-take k xs (λ j. h (suc j)) i
 
 -- what holds of the tape throughout
 pub record Kept (s : List ℕ) : Type 0 where
