@@ -16,9 +16,9 @@ use Rattle.lsh.specs.Hash.{digest}
 use Rattle.lsh.proofs.Bytes.{Bytes}
 use Rattle.lsh.proofs.Figures.{block-some}
 use Rattle.message.proofs.Padded.{padded-bytes}
+use Rattle.runs.specs.Limits.{longestBlock}
 use Rattle.record.specs.declared.Record.{Record}
 use Rattle.record.specs.Record.{sound, heldBytes}
-use Rattle.record.proofs.Sound.{sounds}
 use Rattle.finalization.specs.Receipt.{receiptBytes, receipt}
 use Rattle.finalization.specs.Ending.{messageBits, endAnswer}
 use Rattle.finalization.proofs.Ending.{Ended, ended}
@@ -51,7 +51,7 @@ module _ (r : Record) (last e : ℕ) (output : List ℕ) where
   unfolding closeOutput
   refused-output is other = (is, rw (ne-eqb answer 0 (λ p. other (is ∙ p))))
 
-  pub accepted-output : {p : ℕ} {t d : List ℕ} → answer ≡ 0 → length (r .held) ≡ 256 → Bytes (r .held) → last < 256 → p ≡ last + 2 ^ (7 - e)
+  pub accepted-output : {p : ℕ} {t d : List ℕ} → answer ≡ 0 → length (r .held) ≡ longestBlock → Bytes (r .held) → last < 256 → p ≡ last + 2 ^ (7 - e)
       → t ≡ forwards Z (blocksOf Z (heldBytes r ++ p ∷ replicate (blockBytes Z - 1 - length (heldBytes r)) 0)) (r .chain)
       → d ≡ receipt (r .w) (r .n) (digest Z (r .n) t) ++ drop receiptBytes output
       → (0 ≡ answer) × (d ≡ closeOutput r last e output)
@@ -59,11 +59,11 @@ module _ (r : Record) (last e : ℕ) (output : List ℕ) where
   accepted-output {p} {t} {d} is long bytes byte pad run stored =
       let a : Accepted r last e (length output) = accepted r last e (length output) is in
       let s : List ℕ = heldBytes r in
-      let left : length s % blockBytes Z ≡ length s = mod-eq-of-lt (held-short r (a .taken) long) in
+      let left : length s % blockBytes Z ≡ length s = mod-eq-of-lt (held-short r long) in
       let block : s ++ p ∷ replicate (blockBytes Z - 1 - length s) 0 ≡ bytesOfBits (padded Z (messageBits s last e)) =
       ap (λ (b : ℕ). s ++ b ∷ replicate (blockBytes Z - 1 - length s) 0) pad
       ∙ ap (λ (l : ℕ). s ++ (last + 2 ^ (7 - e)) ∷ replicate (blockBytes Z - 1 - l) 0) (sym left)
-      ∙ sym (padded-bytes Z s last e (block-some (r .w) (sounds r (a .taken) .word)) (held-bytes r bytes) byte (a .end .extra) (a .end .low)) in (
+      ∙ sym (padded-bytes Z s last e (block-some (r .w)) (held-bytes r bytes) byte (a .end .extra) (a .end .low)) in (
         sym is,
         stored
             ∙ ap (λ (c : List ℕ). receipt (r .w) (r .n) (digest Z (r .n) c) ++ drop receiptBytes output)

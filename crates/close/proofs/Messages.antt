@@ -46,7 +46,7 @@ module _ (w n : ℕ) (m : List ℕ) (word : isWordSize w ≡ true) (last e : ℕ
   R = recordOf w n m
 
   some : 0 < B
-  some = block-some w word
+  some = block-some w
 
   -- the extra bits, padded to the end of the block
   abbrev end : ℕ → List ℕ

@@ -45,6 +45,6 @@ fn final_chain(r: record::Record, pad: u8) -> [u64; 16]
     let total = r.total;
     let chain = r.chain;
     let held = r.held;
-    let at = (total % (4 * w)) as usize;
+    let at = record::held_length(w, total);
     finalization::last_chain(w, chain, &held[..at], pad)
 }

@@ -15,7 +15,7 @@ use Rattle.lsh.specs.Bytes.{byteAt, bytesOf}
 use Rattle.lsh.specs.Block.{Chain}
 use Rattle.lsh.specs.Hash.{finalBytes}
 use Rattle.lsh.proofs.Tabulate.{length-tabulate, at-tabulate, tabulate-all}
-use Rattle.lsh.proofs.Figures.{size-32, size-64, block-is, block-most}
+use Rattle.lsh.proofs.Figures.{size-32, size-64, word-most}
 use Rattle.lsh.proofs.Bytes.{Bytes, Octets, octets256, octets512}
 
 xor-zeros : (w : ℕ) → xor w 0 0 ≡ 0
@@ -67,4 +67,4 @@ module _ (w : ℕ) (t : List ℕ) (i : ℕ) (lt : i < w) where
   unfolding lsh512 wordBytes
   final-64 size other =
       subst (λ (z : WordSize). byteAt (xor 64 (at t (i / 8)) (at t (i / 8 + 8))) (i % 8) ≡ at (finalBytes z t) i) (sym (size-64 w size other))
-      (sym (at-final lsh512 octets512 t i (omega (arith, block-is w size, block-most w size))))
+      (sym (at-final lsh512 octets512 t i (omega (arith, word-most w size))))

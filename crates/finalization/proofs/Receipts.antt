@@ -4,7 +4,7 @@ use mathlib.Core.Path.{_≡_, refl, sym, ap, _∙_}
 use mathlib.Core.Bool.{Bool, true, cond}
 use mathlib.Core.List.{List, [], _∷_, _++_}
 use Prim.Native.Nat.{ℕ, zero, suc, _+_, _-_, _*_, _/_, _%_, _^_, _≤_, _<_}
-use native.Mathlib.Nat.{div-add-mod'}
+use native.Mathlib.Nat.{zero-add, div-add-mod'}
 use native.Mathlib.Omega.{arith}
 use borrow.Author.Tests.{lt-ltb, le-ltb}
 use lib.Dec.{ltb}
@@ -14,16 +14,17 @@ use Rattle.lsh.specs.Tabulate.{at, tabulate}
 use Rattle.lsh.specs.WordSize.{isWordSize, sizeOf}
 use Rattle.lsh.specs.Bits.{bytesOfBits}
 use Rattle.lsh.specs.Hash.{finalBytes, digest}
-use Rattle.lsh.proofs.Figures.{bits-are, block-is, block-most}
+use Rattle.lsh.proofs.Figures.{bits-are, word-most}
 use Rattle.lsh.proofs.Tabulate.{length-tabulate, at-tabulate, tabulate-ext}
 use Rattle.lsh.proofs.Bytes.{octets}
 use Rattle.lsh.proofs.Opening.{at-zeros}
 use Rattle.message.proofs.Digest.{digest-bytes}
+use Rattle.runs.specs.Limits.{longestDigest}
 use Rattle.engine.proofs.Places.{Placed, stored-front}
 use Rattle.finalization.specs.Receipt.{receiptBytes, receipt}
 use Rattle.finalization.proofs.FinalBytes.{length-final, final-bytes}
 
-module _ (w n : ℕ) (t : List ℕ) (size : isWordSize w ≡ true) (le : n ≤ 8 * w) where
+module _ (w n : ℕ) (t : List ℕ) (size : isWordSize w ≡ true) (le : n ≤ longestDigest w) where
   abbrev h : List ℕ
   h = finalBytes (sizeOf w) t
 
@@ -60,20 +61,20 @@ module _ (w n : ℕ) (t : List ℕ) (size : isWordSize w ≡ true) (le : n ≤ 8
   abbrev whole : List ℕ
   whole = receipt w n (digest (sizeOf w) n t)
 
-  length-receipt : length whole ≡ 68
+  length-receipt : length whole ≡ receiptBytes
   unfolding receipt receiptBytes
   length-receipt =
-      let short : length bytes ≤ 64 = omega (arith, length-bytes, block-is w size, block-most w size) in
+      let short : length bytes ≤ 64 = omega (arith, length-bytes, word-most w size) in
       let front : List ℕ = w ∷ 0 ∷ n % 256 ∷ n / 256 ∷ bytes in
-      length-append front (replicate (68 - length front) 0) ∙ omega (arith, length-replicate {A = ℕ} (68 - length front) 0)
+      length-append front (replicate (receiptBytes - length front) 0) ∙ omega (arith, length-replicate {A = ℕ} (receiptBytes - length front) 0)
 
-  -- an output whose first 68 bytes were stored
-  pub written : {m₀ m : List ℕ} {i : ℕ} → Placed 68 (λ k. k) (at whole) m₀ m i → 68 ≤ i → 68 ≤ length m₀ → m ≡ whole ++ drop 68 m₀
+  -- an output whose front was stored
+  pub written : {m₀ m : List ℕ} {i : ℕ} → Placed receiptBytes (λ k. k) (at whole) m₀ m i → receiptBytes ≤ i → receiptBytes ≤ length m₀ → m ≡ whole ++ drop receiptBytes m₀
   written {m₀} {m} p ge room =
       stored-front p ge room
-      ∙ ap (sets m₀ 0) (tabulate-ext 68 (at whole) whole length-receipt (λ k lt. refl))
+      ∙ ap (sets m₀ 0) (tabulate-ext receiptBytes (at whole) whole length-receipt (λ k lt. refl))
       ∙ sets-eq whole m₀ 0 (rw length-receipt (omega arith))
-      ∙ ap (λ (k : ℕ). whole ++ drop k m₀) (ap (λ (k : ℕ). 0 + k) length-receipt)
+      ∙ ap (λ (k : ℕ). whole ++ drop k m₀) (zero-add (length whole) ∙ length-receipt)
 
 -- zeros at the end change no place
 at-append-zeros : (s : List ℕ) (k i : ℕ) → at (s ++ replicate k 0) i ≡ at s i

@@ -10,6 +10,10 @@ use Rattle.runs.specs.ZeroFilled.{zeroFilled}
 unfoldable pub receiptBytes : ℕ
 receiptBytes = 68
 
+-- the place of the digest in it
+abbrev pub digestPlace : ℕ
+digestPlace = 4
+
 -- w, zero, n with the low byte first, the digest d of n bits, and zeros
 unfoldable pub receipt : ℕ → ℕ → List Bool → List ℕ
 receipt w n d = zeroFilled receiptBytes (w ∷ 0 ∷ n % 256 ∷ n / 256 ∷ bytesOfBits d)

@@ -2,7 +2,7 @@
 ghost use mathlib.Core.Path.{_≡_};
 ghost use mathlib.Core.Bool.{true};
 ghost use mathlib.Core.List.{_∷_, _++_};
-ghost use Prim.Native.Nat.{_+_, _-_, _*_, _/_, _%_, _^_, _<_, _≤_};
+ghost use Prim.Native.Nat.{_+_, _-_, _%_, _^_, _<_, _≤_};
 ghost use lib.ListN.{length, drop, replicate};
 ghost use Rattle.lsh.specs.Tabulate.{at};
 ghost use Rattle.lsh.specs.Word.{xor};
@@ -11,10 +11,16 @@ ghost use Rattle.lsh.specs.Block.{Chain, forwards};
 ghost use Rattle.lsh.specs.Bits.{bytesOfBits};
 ghost use Rattle.lsh.specs.Padding.{blocksOf};
 ghost use Rattle.lsh.specs.Hash.{finalBytes, digest};
+ghost use Rattle.runs.specs.Limits.{longestBlock, longestDigest};
 ghost use Rattle.finalization.specs.Receipt.{receiptBytes, receipt};
 ghost use Rattle.finalization.specs.Ending.{endAnswer};
+use runs::LONGEST_BLOCK;
 
+// Bytes of a receipt.
 pub const RECEIPT: usize = 68;
+
+// The place of the digest in a receipt, after w and n.
+pub const DIGEST: usize = 4;
 
 // The answer by the end of a message and the size of the output.
 pub fn end_answer(last: u8, e: u64, size: usize) -> u32
@@ -53,15 +59,15 @@ pub fn last_chain(w: u64, t: [u64; 16], rest: &[u8], pad: u8) -> [u64; 16]
     requires { ⌜ (isWordSize w ≡ true) × Chain (sizeOf w) t × (length (now rest) < blockBytes (sizeOf w)) ⌝ }
     ensures { λ r. ⌜ r ≡ forwards (sizeOf w) (blocksOf (sizeOf w) (now (rest .entry) ++ pad ∷ replicate (blockBytes (sizeOf w) - 1 - length (now (rest .entry))) 0)) t ⌝ }
 {
-    let size = (4 * w) as usize;
+    let size = runs::block_bytes(w);
     let block = last_block(rest, pad);
     let run = runs::forward(w, t, &block[..size]);
     run.chain
 }
 
-fn last_block(rest: &[u8], pad: u8) -> [u8; 256]
-    requires { ⌜ length (now rest) < 256 ⌝ }
-    ensures { λ r. ⌜ r ≡ now (rest .entry) ++ pad ∷ replicate (255 - length (now (rest .entry))) 0 ⌝ }
+fn last_block(rest: &[u8], pad: u8) -> [u8; LONGEST_BLOCK]
+    requires { ⌜ length (now rest) < longestBlock ⌝ }
+    ensures { λ r. ⌜ r ≡ now (rest .entry) ++ pad ∷ replicate (longestBlock - 1 - length (now (rest .entry))) 0 ⌝ }
 {
     let mut b = runs::zero_bytes();
     let n = rest.len();
@@ -74,7 +80,7 @@ fn last_block(rest: &[u8], pad: u8) -> [u8; 256]
 
 // Writes the receipt of the chain reached at the output's front.
 pub fn write_receipt(w: u64, n: u64, t: [u64; 16], output: &mut [u8])
-    requires { ⌜ (isWordSize w ≡ true) × (n ≤ 8 * w) × Chain (sizeOf w) t × (receiptBytes ≤ length (now output)) ⌝ }
+    requires { ⌜ (isWordSize w ≡ true) × (n ≤ longestDigest w) × Chain (sizeOf w) t × (receiptBytes ≤ length (now output)) ⌝ }
     ensures { λ _. ⌜ now (output .exit) ≡ receipt w n (digest (sizeOf w) n t) ++ drop receiptBytes (now (output .entry)) ⌝ }
 {
     let end = RECEIPT;
@@ -84,11 +90,11 @@ pub fn write_receipt(w: u64, n: u64, t: [u64; 16], output: &mut [u8])
 }
 
 fn receipt_byte(w: u64, n: u64, t: [u64; 16], i: usize) -> u8
-    requires { ⌜ (isWordSize w ≡ true) × (n ≤ 8 * w) × Chain (sizeOf w) t ⌝ }
+    requires { ⌜ (isWordSize w ≡ true) × (n ≤ longestDigest w) × Chain (sizeOf w) t ⌝ }
     ensures { λ r. ⌜ r ≡ at (receipt w n (digest (sizeOf w) n t)) i ⌝ }
 {
-    if 4 <= i {
-        return digest_byte(w, n, t, i - 4);
+    if DIGEST <= i {
+        return digest_byte(w, n, t, i - DIGEST);
     }
     if i == 0 {
         return w as u8;
@@ -104,7 +110,7 @@ fn receipt_byte(w: u64, n: u64, t: [u64; 16], i: usize) -> u8
 
 // Byte i of the digest. The bits after the first n are 0, and so are bytes that it does not have.
 fn digest_byte(w: u64, n: u64, t: [u64; 16], i: usize) -> u8
-    requires { ⌜ (isWordSize w ≡ true) × (n ≤ 8 * w) × Chain (sizeOf w) t ⌝ }
+    requires { ⌜ (isWordSize w ≡ true) × (n ≤ longestDigest w) × Chain (sizeOf w) t ⌝ }
     ensures { λ r. ⌜ r ≡ at (bytesOfBits (digest (sizeOf w) n t)) i ⌝ }
 {
     let whole = (n / 8) as usize;

@@ -1,20 +1,19 @@
 -- Words and their bytes: each comes back from the other, for every word size.
 -- Assumes nothing.
 use mathlib.Core.Path.{_≡_, refl, sym, ap, ap₂, _∙_, subst}
-use mathlib.Core.Bool.{Bool, true, false}
 use mathlib.Core.List.{List, [], _∷_, _++_}
 use Prim.Native.Nat.{ℕ, zero, suc, _+_, _*_, _/_, _%_, _^_, _<_}
 use native.Mathlib.Nat.{add-zero, mod-lt, div-one, div-add-mod', div-lt-iff-lt-mul, not-suc-le-zero, le-of-suc-le-suc}
 use native.Mathlib.Omega.{arith}
 use lib.Arith.{lt-one, digits-lt, digits-div, digits-mod}
 use lib.Pow.{pow-add, shr-shr}
-use lib.Dec.{eqb}
 use lib.ListN.{length, take, drop}
 use lib.Seq.{getD-drop}
 use Rattle.lsh.specs.Tabulate.{at}
 use Rattle.lsh.specs.WordSize.{WordSize, lsh256, lsh512, sizeOf, wordBytes, chainBytes}
 use Rattle.lsh.specs.Bytes.{wordAt, wordsOf, byteAt, bytesOf}
 use Rattle.lsh.specs.Block.{Chain}
+use Rattle.lsh.proofs.Figures.{of-both}
 use Rattle.lsh.proofs.Tabulate.{length-tabulate, at-tabulate, tabulate-ext}
 use Rattle.lsh.proofs.Step.{tabulate-chain}
 
@@ -32,12 +31,7 @@ unfolding lsh512 wordBytes
 octets512 = record { some = omega arith; whole = refl }
 
 pub octets : (w : ℕ) → Octets (sizeOf w)
-unfolding sizeOf
-octets w = go (eqb w 64)
-  where
-    go : (b : Bool) → Octets (elim b [ true ↦ lsh512 | false ↦ lsh256 ])
-    go true = octets512
-    go false = octets256
+octets = of-both Octets octets256 octets512
 
 -- each place of a byte string is below 256 (a place past the end reads as 0)
 abbrev pub Bytes : List ℕ → Type 0

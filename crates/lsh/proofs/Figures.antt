@@ -2,7 +2,7 @@
 -- Assumes nothing.
 use mathlib.Core.Path.{_≡_, refl, sym, ap, subst}
 use mathlib.Core.Bool.{Bool, true, false}
-use Prim.Native.Nat.{ℕ, _*_, _%_, _≤_, _<_, suc-le-suc}
+use Prim.Native.Nat.{ℕ, _%_, _≤_, _<_, suc-le-suc}
 use native.Mathlib.Omega.{arith}
 use borrow.Author.Tests.{eqb-true}
 use lib.Dec.{eqb}
@@ -33,13 +33,21 @@ amounts512 =
       γ = λ l. suc-le-suc (at-upTo 63 (lsh512 .gammas) tt l);
     }
 
-pub amounts : (w : ℕ) → Amounts (sizeOf w)
+-- what holds of the figures of both word sizes holds of those of every w
+pub of-both : (P : WordSize → Type 0) → P lsh256 → P lsh512 → (w : ℕ) → P (sizeOf w)
 unfolding sizeOf
-amounts w = go (eqb w 64)
+of-both P small large w = go (eqb w 64)
   where
-    go : (b : Bool) → Amounts (elim b [ true ↦ lsh512 | false ↦ lsh256 ])
-    go true = amounts512
-    go false = amounts256
+    go : (b : Bool) → P (elim b [ true ↦ lsh512 | false ↦ lsh256 ])
+    go true = large
+    go false = small
+
+pub amounts : (w : ℕ) → Amounts (sizeOf w)
+amounts = of-both Amounts amounts256 amounts512
+
+pub block-some : (w : ℕ) → 0 < blockBytes (sizeOf w)
+unfolding blockBytes lsh256 lsh512
+block-some = of-both (λ (z : WordSize). 0 < blockBytes z) (omega arith) (omega arith)
 
 -- what holds of 32 and of 64 holds of every word size
 pub by-size : (P : ℕ → Type 0) → P 32 → P 64 → (w : ℕ) → isWordSize w ≡ true → P w
@@ -62,15 +70,5 @@ pub bits-are : (w : ℕ) → isWordSize w ≡ true → sizeOf w .bits ≡ w
 unfolding sizeOf lsh256 lsh512
 bits-are = by-size (λ (w : ℕ). sizeOf w .bits ≡ w) refl refl
 
-pub block-is : (w : ℕ) → isWordSize w ≡ true → blockBytes (sizeOf w) ≡ 4 * w
-unfolding blockBytes
-block-is w e = ap (λ (n : ℕ). 4 * n) (bits-are w e)
-
--- a block has some bytes, and at most 256
-pub block-some : (w : ℕ) → isWordSize w ≡ true → 0 < blockBytes (sizeOf w)
-unfolding blockBytes sizeOf lsh256 lsh512
-block-some = by-size (λ (w : ℕ). 0 < blockBytes (sizeOf w)) (omega arith) (omega arith)
-
-pub block-most : (w : ℕ) → isWordSize w ≡ true → blockBytes (sizeOf w) ≤ 256
-unfolding blockBytes sizeOf lsh256 lsh512
-block-most = by-size (λ (w : ℕ). blockBytes (sizeOf w) ≤ 256) (omega arith) (omega arith)
+pub word-most : (w : ℕ) → isWordSize w ≡ true → w ≤ 64
+word-most = by-size (λ (w : ℕ). w ≤ 64) (omega arith) (omega arith)

@@ -55,5 +55,5 @@ opening-run w n s e is =
     let z : WordSize = sizeOf w in
     let len : length s ≡ blockBytes z = ap length is ∙ length-replicate (blockBytes z) 0 in
     let words : wordsOf z 32 s ≡ replicate 32 0 = ap (wordsOf z 32) is ∙ zero-words z 32 (blockBytes z) in
-    ap (λ (bs : List (List ℕ)). forwards z bs (firstChain w n)) (one-block z (block-some w e) s len)
+    ap (λ (bs : List (List ℕ)). forwards z bs (firstChain w n)) (one-block z (block-some w) s len)
     ∙ ap₂ (λ (b : List ℕ) (v : ℕ). forward z b (firstChain v n)) words (sym (bits-are w e))

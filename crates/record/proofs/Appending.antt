@@ -1,6 +1,6 @@
 -- What an accepted Append gives, by how it goes: to a record that holds no bytes, without filling a block, and filling the block begun.
 -- Assumes nothing.
-use mathlib.Core.Path.{_≡_, refl, sym, ap, _∙_, subst}
+use mathlib.Core.Path.{_≡_, sym, ap, _∙_}
 use mathlib.Core.Bool.{true}
 use mathlib.Core.List.{List, _++_, append-assoc}
 use Prim.Native.Nat.{ℕ, _+_, _-_, _*_, _/_, _%_, _≤_, _<_}
@@ -8,19 +8,20 @@ use native.Mathlib.Nat.{mul-add-div-right, div-eq-of-lt, mod-self, le-refl}
 use native.Mathlib.Omega.{arith}
 use lib.ListN.{length, take, drop, replicate, length-append, length-drop, take-append-drop}
 use lib.Seq.{take-all, length-take-le, paste, take-paste, drop-drop}
-use Rattle.lsh.specs.WordSize.{WordSize, isWordSize, sizeOf, blockBytes}
+use Rattle.lsh.specs.WordSize.{WordSize, sizeOf, blockBytes}
 use Rattle.lsh.specs.Block.{forwards}
 use Rattle.lsh.specs.Padding.{blocksOf, restOf}
-use Rattle.lsh.proofs.Figures.{block-is, block-some}
+use Rattle.lsh.proofs.Figures.{block-some}
 use Rattle.lsh.proofs.Blocks.{forwards-append}
 use Rattle.lsh.proofs.Padding.{blocks-append, rest-none, blocks-short, rest-short, rest-first}
+use Rattle.runs.specs.Limits.{longestBlock}
+use Rattle.runs.proofs.Limits.{block-most}
 use Rattle.runs.proofs.Zeros.{drop-replicate}
 use Rattle.record.specs.declared.Record.{Record}
 use Rattle.record.specs.declared.Outcome.{Outcome}
-use Rattle.record.specs.Record.{heldOf, sound, heldBytes}
+use Rattle.record.specs.Record.{heldOf, heldLength, sound, heldBytes}
 use Rattle.record.specs.Calls.{appended, appendAccepted}
 use Rattle.record.proofs.Lists.{zero-all}
-use Rattle.runs.proofs.Sizes.{bytes-most}
 use Rattle.record.proofs.Sound.{sounds}
 use Rattle.record.proofs.Held.{fill-lt, held-length, total-is}
 
@@ -40,88 +41,65 @@ forwards-first z s p t some e =
     rw (blocks-append z some s p, rest-none z some s (ap (λ (n : ℕ). n % blockBytes z) e ∙ mod-self (blockBytes z)))
     (forwards-append z (blocksOf z s) (blocksOf z p) t)
 
--- how many bytes are held, and how many the block begun has room for, as the code counts them
-abbrev pub place : Record → ℕ
-place r = r .total % (4 * r .w)
+-- how many bytes are held, and how many the block begun has room for
+abbrev pub fill : Record → ℕ
+fill r = heldLength (r .w) (r .total)
 
 abbrev pub room : Record → ℕ
-room r = 4 * r .w - place r
+room r = blockBytes (sizeOf (r .w)) - fill r
 
-module _ (r : Record) (ok : sound r ≡ true) (long : length (r .held) ≡ 256) (p : List ℕ) where
+module _ (r : Record) (ok : sound r ≡ true) (long : length (r .held) ≡ longestBlock) (p : List ℕ) where
   abbrev Z : WordSize
   Z = sizeOf (r .w)
 
   abbrev B : ℕ
   B = blockBytes Z
 
-  abbrev fill : ℕ
-  fill = r .total % B
-
   -- the string whose whole blocks are run
   abbrev whole : List ℕ
   whole = heldBytes r ++ p
 
-  word : isWordSize (r .w) ≡ true
-  word = sounds r ok .word
-
   some : 0 < B
-  some = block-some (r .w) word
+  some = block-some (r .w)
 
   accepted : appendAccepted r p ≡ answered r (length p) (length whole / B) (forwards Z (blocksOf Z whole) (r .chain)) (heldOf (restOf Z whole))
   unfolding appendAccepted appended
   accepted =
       let f : (r .total + length p) / B - r .total / B ≡ length whole / B =
-      omega (arith, ap (λ (n : ℕ). n / B) (total-is r word long p) ∙ mul-add-div-right some (r .total / B) (length whole)) in
+      omega (arith, ap (λ (n : ℕ). n / B) (total-is r long p) ∙ mul-add-div-right some (r .total / B) (length whole)) in
       rw f
 
-  -- what holds of the bytes of a block holds of 4w
-  by-bytes : (P : ℕ → Type 0) → P B → P (4 * r .w)
-  by-bytes P h = subst P (block-is (r .w) word) h
-
-  pub even : place r ≡ 0 → appendAccepted r p ≡ answered r (length p) (length p / B) (forwards Z (blocksOf Z p) (r .chain)) (heldOf (restOf Z p))
+  pub even : fill r ≡ 0 → appendAccepted r p ≡ answered r (length p) (length p / B) (forwards Z (blocksOf Z p) (r .chain)) (heldOf (restOf Z p))
   unfolding heldBytes
-  even =
-      by-bytes
-      (λ (b : ℕ). r .total % b ≡ 0 → appendAccepted r p ≡ answered r (length p) (length p / B) (forwards Z (blocksOf Z p) (r .chain)) (heldOf (restOf Z p)))
-      (λ none. accepted ∙ rw none)
+  even none = accepted ∙ rw none
 
-  zeros-after : drop (fill + length p) (r .held) ≡ replicate (256 - (fill + length p)) 0
+  zeros-after : drop (fill r + length p) (r .held) ≡ replicate (longestBlock - (fill r + length p)) 0
   zeros-after =
-      let e : length (r .held) - fill - length p ≡ 256 - (fill + length p) = omega arith in
-      rw (← drop-drop (length p) fill (r .held), zero-all (drop fill (r .held)) (sounds r ok .zero), drop-replicate, length-drop, e)
+      let e : length (r .held) - fill r - length p ≡ longestBlock - (fill r + length p) = omega arith in
+      rw (← drop-drop (length p) (fill r) (r .held), zero-all (drop (fill r) (r .held)) (sounds r ok .zero), drop-replicate, length-drop, e)
 
-  short-block : fill + length p < B → appendAccepted r p ≡ answered r (length p) 0 (r .chain) (paste (r .held) fill p (length p))
+  pub short : fill r + length p < B → appendAccepted r p ≡ answered r (length p) 0 (r .chain) (paste (r .held) (fill r) p (length p))
   unfolding heldOf heldBytes forwards
-  short-block lt =
-      let l : length whole ≡ fill + length p = omega (arith, held-length r word long, length-append (heldBytes r) p) in
+  short lt =
+      let l : length whole ≡ fill r + length p = omega (arith, held-length r long, length-append (heldBytes r) p) in
       let k : length whole < B = omega arith in
       accepted
       ∙ rw (div-eq-of-lt k, blocks-short Z some whole k, rest-short Z some whole k, l, zeros-after, take-all (length p) p (le-refl (length p)))
-
-  pub short : place r + length p < 4 * r .w → appendAccepted r p ≡ answered r (length p) 0 (r .chain) (paste (r .held) (place r) p (length p))
-  short =
-      by-bytes
-      (λ (b : ℕ). r .total % b + length p < b → appendAccepted r p ≡ answered r (length p) 0 (r .chain) (paste (r .held) (r .total % b) p (length p)))
-      short-block
 
   -- the first bytes of the piece, which fill the block begun
   abbrev filling : List ℕ
   filling = take (room r) p
 
-  pub filling-length : room r ≤ length p → length filling ≡ room r
+  filling-length : room r ≤ length p → length filling ≡ room r
   filling-length le = length-take-le (room r) p le
 
-  pub place-lt : place r < 4 * r .w
-  place-lt = by-bytes (λ (b : ℕ). r .total % b < b) (fill-lt r word long)
-
-  pub first-block : room r ≤ length p → take (4 * r .w) (paste (r .held) (place r) filling (length filling)) ≡ heldBytes r ++ filling
+  pub first-block : room r ≤ length p → take B (paste (r .held) (fill r) filling (length filling)) ≡ heldBytes r ++ filling
   unfolding heldBytes
   first-block le =
-      let l : place r + length filling ≡ 4 * r .w = omega (arith, filling-length le, place-lt) in
-      ap (λ (n : ℕ). take n (paste (r .held) (place r) filling (length filling))) (sym l)
-      ∙ take-paste (r .held) (place r) filling (length filling) (omega (arith, place-lt, bytes-most (r .w) word, long)) (le-refl (length filling))
-      ∙ ap (λ (x : List ℕ). take (place r) (r .held) ++ x) (take-all (length filling) filling (le-refl (length filling)))
-      ∙ sym (by-bytes (λ (b : ℕ). heldBytes r ++ filling ≡ take (r .total % b) (r .held) ++ filling) refl)
+      let l : fill r + length filling ≡ B = omega (arith, filling-length le, fill-lt r long) in
+      ap (λ (n : ℕ). take n (paste (r .held) (fill r) filling (length filling))) (sym l)
+      ∙ take-paste (r .held) (fill r) filling (length filling) (omega (arith, fill-lt r long, block-most (r .w), long)) (le-refl (length filling))
+      ∙ ap (λ (x : List ℕ). take (fill r) (r .held) ++ x) (take-all (length filling) filling (le-refl (length filling)))
 
   pub filled : room r ≤ length p
       → appendAccepted r p
@@ -131,11 +109,10 @@ module _ (r : Record) (ok : sound r ≡ true) (long : length (r .held) ≡ 256) 
   filled le =
       let first : List ℕ = heldBytes r ++ filling in
       let after : List ℕ = drop (room r) p in
-      let e : room r ≡ B - fill = by-bytes (λ (b : ℕ). b - r .total % b ≡ B - fill) refl in
       let j : whole ≡ first ++ after = rw (append-assoc, take-append-drop) in
-      let l : length first ≡ B = omega (arith, fill-lt r word long, held-length r word long, length-append (heldBytes r) filling, filling-length le) in
+      let l : length first ≡ B = omega (arith, fill-lt r long, held-length r long, length-append (heldBytes r) filling, filling-length le) in
       let a : length whole ≡ 1 * B + length after =
-      omega (arith, fill-lt r word long, held-length r word long, length-append (heldBytes r) p, length-drop (room r) p) in
+      omega (arith, fill-lt r long, held-length r long, length-append (heldBytes r) p, length-drop (room r) p) in
       let c : length whole / B ≡ length after / B + 1 =
       omega (arith, ap (λ (n : ℕ). n / B) a ∙ mul-add-div-right some 1 (length after)) in
       accepted ∙ rw (c, j, forwards-first Z first after (r .chain) some l, rest-first Z some first after l)

@@ -13,6 +13,7 @@ use Rattle.lsh.specs.Padding.{firstBlocks, blocksOf, restOf}
 use Rattle.lsh.proofs.Figures.{block-some}
 use Rattle.lsh.proofs.Blocks.{forwards-append}
 use Rattle.lsh.proofs.Padding.{blocks-append, rest-append}
+use Rattle.runs.specs.Limits.{longestBlock}
 use Rattle.record.specs.declared.Record.{Record}
 use Rattle.record.specs.Record.{heldOf, heldBytes, recordOf}
 use Rattle.record.specs.Calls.{opened, appended}
@@ -30,15 +31,15 @@ module _ (r : Record) (word : isWordSize (r .w) ≡ true) (long : length (r .hel
 
   chain-joins : forwards Z (blocksOf Z (heldBytes (appended r p) ++ q)) (forwards Z (blocksOf Z whole) (r .chain)) ≡ forwards Z (blocksOf Z (heldBytes r ++ (p ++ q))) (r .chain)
   chain-joins =
-      ap (λ (s : List ℕ). forwards Z (blocksOf Z (s ++ q)) (forwards Z (blocksOf Z whole) (r .chain))) (held-after r word long p)
+      ap (λ (s : List ℕ). forwards Z (blocksOf Z (s ++ q)) (forwards Z (blocksOf Z whole) (r .chain))) (held-after r long p)
       ∙ sym (forwards-append Z (blocksOf Z whole) (blocksOf Z (restOf Z whole ++ q)) (r .chain))
-      ∙ ap (λ (bs : List (List ℕ)). forwards Z bs (r .chain)) (sym (blocks-append Z (block-some (r .w) word) whole q))
+      ∙ ap (λ (bs : List (List ℕ)). forwards Z bs (r .chain)) (sym (blocks-append Z (block-some (r .w)) whole q))
       ∙ ap (λ (s : List ℕ). forwards Z (blocksOf Z s) (r .chain)) (append-assoc (heldBytes r) p q)
 
   held-joins : heldOf (restOf Z (heldBytes (appended r p) ++ q)) ≡ heldOf (restOf Z (heldBytes r ++ (p ++ q)))
   held-joins =
-      ap (λ (s : List ℕ). heldOf (restOf Z (s ++ q))) (held-after r word long p)
-      ∙ ap heldOf (sym (rest-append Z (block-some (r .w) word) whole q))
+      ap (λ (s : List ℕ). heldOf (restOf Z (s ++ q))) (held-after r long p)
+      ∙ ap heldOf (sym (rest-append Z (block-some (r .w)) whole q))
       ∙ ap (λ (s : List ℕ). heldOf (restOf Z s)) (append-assoc (heldBytes r) p q)
 
   pub append-joins : appended (appended r p) q ≡ appended r (p ++ q)
@@ -54,9 +55,9 @@ record-piece : (w n : ℕ) (m : List ℕ) → appended (opened w n) m ≡ record
 unfolding recordOf opened appended heldBytes
 record-piece w n m = rw (zero-mod (blockBytes (sizeOf w)), zero-add (length m))
 
-opened-long : (w n : ℕ) → length (opened w n .held) ≡ 256
+opened-long : (w n : ℕ) → length (opened w n .held) ≡ longestBlock
 unfolding opened heldOf
-opened-long w n = length-replicate {A = ℕ} 256 0
+opened-long w n = length-replicate {A = ℕ} longestBlock 0
 
 pub append-record : (w n : ℕ) (m p : List ℕ) → isWordSize w ≡ true → appended (recordOf w n m) p ≡ recordOf w n (m ++ p)
 unfolding opened

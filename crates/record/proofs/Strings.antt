@@ -16,7 +16,7 @@ use Rattle.lsh.proofs.Figures.{amounts, bits-are, block-some}
 use Rattle.lsh.proofs.Block.{forward-chain}
 use Rattle.lsh.proofs.Blocks.{forwards-chain}
 use Rattle.lsh.proofs.Padding.{length-rest}
-use Rattle.runs.specs.Limits.{isDigestLength, limit}
+use Rattle.runs.specs.Limits.{longestBlock, isDigestLength, limit}
 use Rattle.record.specs.Record.{heldOf, allBelow, allZero, sound, heldBytes, recordOf}
 use Rattle.record.proofs.Lists.{all-below}
 
@@ -42,17 +42,17 @@ module _ (w n : ℕ) (m : List ℕ) (word : isWordSize w ≡ true) where
   below = all-below (2 ^ w) chain (λ l. subst (λ (v : ℕ). at chain l < 2 ^ v) (bits-are w word) (chain-is .below l))
 
   size : length (restOf Z m) ≡ length m % blockBytes Z
-  size = length-rest Z (block-some w word) m
+  size = length-rest Z (block-some w) m
 
   pub held-record : heldBytes (recordOf w n m) ≡ restOf Z m
   unfolding heldBytes recordOf heldOf
-  held-record = take-at (restOf Z m) (replicate (256 - length (restOf Z m)) 0) (length m % blockBytes Z) size
+  held-record = take-at (restOf Z m) (replicate (longestBlock - length (restOf Z m)) 0) (length m % blockBytes Z) size
 
   zero-after : allZero (drop (length m % blockBytes Z) (heldOf (restOf Z m))) ≡ true
   unfolding heldOf
   zero-after =
-      ap allZero (drop-at (restOf Z m) (replicate (256 - length (restOf Z m)) 0) (length m % blockBytes Z) size)
-      ∙ all-zero (256 - length (restOf Z m))
+      ap allZero (drop-at (restOf Z m) (replicate (longestBlock - length (restOf Z m)) 0) (length m % blockBytes Z) size)
+      ∙ all-zero (longestBlock - length (restOf Z m))
 
   pub record-sound : isDigestLength w n ≡ true → length m ≤ limit → sound (recordOf w n m) ≡ true
   unfolding sound recordOf

@@ -9,13 +9,17 @@ use Rattle.lsh.specs.WordSize.{isWordSize, sizeOf, blockBytes}
 use Rattle.lsh.specs.Block.{forwards}
 use Rattle.lsh.specs.Opening.{opening}
 use Rattle.lsh.specs.Padding.{blocksOf, restOf}
-use Rattle.runs.specs.Limits.{isDigestLength, limit}
+use Rattle.runs.specs.Limits.{longestBlock, isDigestLength, limit}
 use Rattle.runs.specs.ZeroFilled.{zeroFilled}
 use Rattle.record.specs.declared.Record.{Record}
 
--- the bytes s, and zeros after them, 256 in all
+-- the bytes s, and zeros after them, as many in all as a block has at most
 unfoldable pub heldOf : List ℕ → List ℕ
-heldOf s = zeroFilled 256 s
+heldOf s = zeroFilled longestBlock s
+
+-- how many bytes are held of an order of this total: those after its last whole block
+abbrev pub heldLength : ℕ → ℕ → ℕ
+heldLength w total = total % blockBytes (sizeOf w)
 
 -- each number of s is below m
 abbrev pub allBelow : ℕ → List ℕ → Bool
@@ -34,15 +38,15 @@ sound r =
     && isDigestLength (r .w) (r .n)
     && leb (r .total) limit
     && allBelow (2 ^ r .w) (r .chain)
-    && allZero (drop (r .total % blockBytes (sizeOf (r .w))) (r .held))
+    && allZero (drop (heldLength (r .w) (r .total)) (r .held))
 
--- the bytes held: those after the last whole block
+-- the bytes held
 unfoldable pub heldBytes : Record → List ℕ
-heldBytes r = take (r .total % blockBytes (sizeOf (r .w))) (r .held)
+heldBytes r = take (heldLength (r .w) (r .total)) (r .held)
 
 -- the record of zeros, which a refused Open returns
 unfoldable pub zeros : Record
-zeros = record { w = 0; n = 0; total = 0; chain = replicate 16 0; held = replicate 256 0 }
+zeros = record { w = 0; n = 0; total = 0; chain = replicate 16 0; held = replicate longestBlock 0 }
 
 -- the record of the bytes m: the opening chain run over their whole blocks, and the rest held
 unfoldable pub recordOf : ℕ → ℕ → List ℕ → Record

@@ -1,15 +1,16 @@
 // The record of an order, and the calls Open and Append.
 ghost use mathlib.Core.Path.{_≡_};
 ghost use mathlib.Core.Bool.{true};
-ghost use Prim.Native.Nat.{_+_, _*_, _/_, _%_, _^_, _<_, _≤_};
+ghost use Prim.Native.Nat.{_+_, _/_, _^_, _<_, _≤_};
 ghost use lib.ListN.{length, drop};
 ghost use lib.Seq.{paste};
 ghost use Rattle.lsh.specs.WordSize.{isWordSize, sizeOf, blockBytes};
 ghost use Rattle.lsh.specs.Block.{Chain, forwards};
 ghost use Rattle.lsh.specs.Padding.{blocksOf, restOf};
-ghost use Rattle.runs.specs.Limits.{limit};
-ghost use Rattle.record.specs.Record.{heldOf, allBelow, allZero, sound, zeros};
+ghost use Rattle.runs.specs.Limits.{longestBlock, limit};
+ghost use Rattle.record.specs.Record.{heldOf, heldLength, allBelow, allZero, sound, zeros};
 ghost use Rattle.record.specs.Calls.{refused, openCall, appendAccepted, appendCall};
+use runs::LONGEST_BLOCK;
 
 // What is kept of an order between calls: the word size, the digest length in bits, how many bytes there were, the chain after
 // their whole blocks, and the bytes held since. C has it by value, as lsh_record.
@@ -19,7 +20,7 @@ pub struct Record {
     pub n: u64,
     pub total: u64,
     pub chain: [u64; 16],
-    pub held: [u8; 256],
+    pub held: [u8; LONGEST_BLOCK],
 }
 
 // The answer to a call: its number, how many blocks were run, and the record that follows. C has it as lsh_outcome.
@@ -34,7 +35,7 @@ pub struct Outcome {
 struct Taken {
     chain: [u64; 16],
     count: u64,
-    held: [u8; 256],
+    held: [u8; LONGEST_BLOCK],
 }
 
 // The record of a new order.
@@ -82,7 +83,7 @@ fn no_record() -> Record
         n: 0,
         total: 0,
         chain: [0u64; 16],
-        held: [0u8; 256],
+        held: [0u8; LONGEST_BLOCK],
     }
 }
 
@@ -107,8 +108,15 @@ pub fn is_sound(r: Record) -> bool
     if !words_below(w, chain) {
         return false;
     }
-    let at = (total % (4 * w)) as usize;
+    let at = held_length(w, total);
     zero_from(&held, at)
+}
+
+// How many bytes are held of an order of this total: those after its last whole block.
+pub fn held_length(w: u64, total: u64) -> usize
+    ensures { λ r. ⌜ r ≡ heldLength w total ⌝ }
+{
+    total as usize % runs::block_bytes(w)
 }
 
 // Whether each word of the chain has w bits.
@@ -122,7 +130,7 @@ fn words_below(w: u64, chain: [u64; 16]) -> bool
     }
     let mut i: usize = 0;
     while i < 16 {
-        if 4294967296 <= c[i] {
+        if (u32::MAX as u64) < c[i] {
             return false;
         }
         i += 1;
@@ -153,15 +161,15 @@ pub fn append(r: Record, piece: &[u8]) -> Outcome
     }
     let total = r.total;
     let w = r.w;
-    let len = piece.len() as u64;
-    if runs::LIMIT as u64 - total < len {
+    let len = piece.len();
+    if runs::LIMIT as u64 - total < len as u64 {
         return refused(5, r);
     }
-    let at = total % (4 * w);
+    let at = held_length(w, total);
     if at == 0 {
         return append_even(r, piece);
     }
-    if at + len < 4 * w {
+    if at + len < runs::block_bytes(w) {
         return append_short(r, piece);
     }
     append_long(r, piece)
@@ -169,7 +177,7 @@ pub fn append(r: Record, piece: &[u8]) -> Outcome
 
 // To a record that holds no bytes.
 fn append_even(r: Record, piece: &[u8]) -> Outcome
-    requires { ⌜ (sound r ≡ true) × (r .total + length (now piece) ≤ limit) × (r .total % (4 * r .w) ≡ 0) ⌝ }
+    requires { ⌜ (sound r ≡ true) × (r .total + length (now piece) ≤ limit) × (heldLength (r .w) (r .total) ≡ 0) ⌝ }
     ensures { λ o. ⌜ o ≡ appendAccepted r (now (piece .entry)) ⌝ }
 {
     let w = r.w;
@@ -197,7 +205,7 @@ fn append_even(r: Record, piece: &[u8]) -> Outcome
 
 // A piece that does not fill the block begun.
 fn append_short(r: Record, piece: &[u8]) -> Outcome
-    requires { ⌜ (sound r ≡ true) × (r .total + length (now piece) ≤ limit) × (r .total % (4 * r .w) + length (now piece) < 4 * r .w) ⌝ }
+    requires { ⌜ (sound r ≡ true) × (r .total + length (now piece) ≤ limit) × (heldLength (r .w) (r .total) + length (now piece) < blockBytes (sizeOf (r .w))) ⌝ }
     ensures { λ o. ⌜ o ≡ appendAccepted r (now (piece .entry)) ⌝ }
 {
     let w = r.w;
@@ -205,7 +213,7 @@ fn append_short(r: Record, piece: &[u8]) -> Outcome
     let total = r.total;
     let chain = r.chain;
     let held = r.held;
-    let at = (total % (4 * w)) as usize;
+    let at = held_length(w, total);
     let joined = put(held, at, piece);
     let sum = total + piece.len() as u64;
     let next = Record {
@@ -224,7 +232,7 @@ fn append_short(r: Record, piece: &[u8]) -> Outcome
 
 // A piece that fills the block begun: this block is run first, and the blocks after it straight from the piece.
 fn append_long(r: Record, piece: &[u8]) -> Outcome
-    requires { ⌜ (sound r ≡ true) × (r .total + length (now piece) ≤ limit) × (4 * r .w ≤ r .total % (4 * r .w) + length (now piece)) ⌝ }
+    requires { ⌜ (sound r ≡ true) × (r .total + length (now piece) ≤ limit) × (blockBytes (sizeOf (r .w)) ≤ heldLength (r .w) (r .total) + length (now piece)) ⌝ }
     ensures { λ o. ⌜ o ≡ appendAccepted r (now (piece .entry)) ⌝ }
 {
     let w = r.w;
@@ -232,8 +240,8 @@ fn append_long(r: Record, piece: &[u8]) -> Outcome
     let total = r.total;
     let chain = r.chain;
     let held = r.held;
-    let size = (4 * w) as usize;
-    let at = (total % (4 * w)) as usize;
+    let size = runs::block_bytes(w);
+    let at = held_length(w, total);
     let room = size - at;
     let first = put(held, at, &piece[..room]);
     let begun = runs::forward(w, chain, &first[..size]);
@@ -267,7 +275,7 @@ fn take_whole(w: u64, chain: [u64; 16], piece: &[u8]) -> Taken
     let run = runs::forward(w, chain, piece);
     let c = run.chain;
     let count = run.count;
-    let at = count * (4 * w) as usize;
+    let at = count * runs::block_bytes(w);
     let held = hold(&piece[at..]);
     Taken {
         chain: c,
@@ -277,8 +285,8 @@ fn take_whole(w: u64, chain: [u64; 16], piece: &[u8]) -> Taken
 }
 
 // The held bytes that begin with the part, the others 0.
-pub fn hold(part: &[u8]) -> [u8; 256]
-    requires { ⌜ length (now part) ≤ 256 ⌝ }
+pub fn hold(part: &[u8]) -> [u8; LONGEST_BLOCK]
+    requires { ⌜ length (now part) ≤ longestBlock ⌝ }
     ensures { λ r. ⌜ r ≡ heldOf (now (part .entry)) ⌝ }
 {
     let zeros = runs::zero_bytes();
@@ -286,8 +294,8 @@ pub fn hold(part: &[u8]) -> [u8; 256]
 }
 
 // The held bytes with the part written from a place on.
-fn put(held: [u8; 256], at: usize, part: &[u8]) -> [u8; 256]
-    requires { ⌜ at + length (now part) ≤ 256 ⌝ }
+fn put(held: [u8; LONGEST_BLOCK], at: usize, part: &[u8]) -> [u8; LONGEST_BLOCK]
+    requires { ⌜ at + length (now part) ≤ longestBlock ⌝ }
     ensures { λ r. ⌜ r ≡ paste held at (now (part .entry)) (length (now (part .entry))) ⌝ }
 {
     let mut h = held;

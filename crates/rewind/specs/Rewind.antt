@@ -12,7 +12,7 @@ use Rattle.lsh.specs.Padding.{blocksOf}
 use Rattle.equal.specs.Equal.{equal}
 use Rattle.record.specs.declared.Record.{Record}
 use Rattle.record.specs.declared.Outcome.{Outcome}
-use Rattle.record.specs.Record.{heldOf, heldBytes, sound}
+use Rattle.record.specs.Record.{heldOf, heldLength, heldBytes, sound}
 use Rattle.record.specs.Calls.{refused}
 
 -- 6, with blocks of b bytes: the size bytes handed back are more than the total, or do not begin with a block
@@ -25,7 +25,7 @@ keepsTooMuch b keep size = ltb size keep || leb b keep
 
 -- 8: as many of the last bytes of h as are held are not those held
 unfoldable pub heldDiffers : Record → List ℕ → Bool
-heldDiffers r h = not (equal (drop (length h - r .total % blockBytes (sizeOf (r .w))) h) (heldBytes r))
+heldDiffers r h = not (equal (drop (length h - heldLength (r .w) (r .total)) h) (heldBytes r))
 
 -- the chain that the blocks of h, run backward from the last, reach
 unfoldable pub reached : Record → List ℕ → List ℕ

@@ -30,23 +30,21 @@ pub fn rewind(r: Record, keep: u64, h: &[u8]) -> Outcome
 }
 
 fn starts_off_block(w: u64, total: u64, size: u64) -> bool
-    requires { ⌜ isWordSize w ≡ true ⌝ }
     ensures { λ b. ⌜ b ≡ startsOffBlock (blockBytes (sizeOf w)) total size ⌝ }
 {
     if total < size {
         return true;
     }
-    (total - size) % (4 * w) != 0
+    (total - size) % runs::block_bytes(w) as u64 != 0
 }
 
 fn keeps_too_much(w: u64, keep: u64, size: u64) -> bool
-    requires { ⌜ isWordSize w ≡ true ⌝ }
     ensures { λ b. ⌜ b ≡ keepsTooMuch (blockBytes (sizeOf w)) keep size ⌝ }
 {
     if size < keep {
         return true;
     }
-    4 * w <= keep
+    runs::block_bytes(w) as u64 <= keep
 }
 
 // Where the lengths are right. 9 is known only after the run, which is on copies, so a refusal has nothing to undo.
@@ -89,7 +87,7 @@ fn held_differs(r: Record, h: &[u8]) -> bool
     ensures { λ b. ⌜ b ≡ heldDiffers r (now (h .entry)) ⌝ }
 {
     let held = r.held;
-    let at = (r.total % (4 * r.w)) as usize;
+    let at = record::held_length(r.w, r.total);
     let before = h.len() - at;
     !equal::equal_bytes(&h[before..], &held[..at])
 }

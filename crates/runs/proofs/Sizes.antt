@@ -1,15 +1,13 @@
 -- A run by its word size.
 -- Assumes nothing.
 use mathlib.Core.Path.{_≡_, sym, ap, _∙_, subst}
-use mathlib.Core.Bool.{true}
 use mathlib.Core.List.{List, []}
-use Prim.Native.Nat.{ℕ, _*_, _/_, _≤_, _<_}
+use Prim.Native.Nat.{ℕ, _/_, _<_}
 use native.Mathlib.Nat.{div-eq-of-lt}
-use native.Mathlib.Omega.{arith}
 use lib.ListN.{length}
-use Rattle.lsh.specs.WordSize.{WordSize, isWordSize, sizeOf, blockBytes}
+use Rattle.lsh.specs.WordSize.{WordSize, sizeOf, blockBytes}
 use Rattle.lsh.specs.Padding.{blocksOf}
-use Rattle.lsh.proofs.Figures.{block-is, block-some, block-most}
+use Rattle.lsh.proofs.Figures.{block-some}
 use Rattle.lsh.proofs.Padding.{blocks-short}
 
 -- blocks run on a chain of a word size, forward or backward
@@ -26,15 +24,6 @@ module _ (run : Running) (w : ℕ) (s : List ℕ) where
       (gives .0 ∙ ap (run z (blocksOf z s)) same, gives .1)
 
   -- a string without a whole block
-  pub run-none : (t : List ℕ) → run (sizeOf w) [] t ≡ t → isWordSize w ≡ true → length s < 4 * w
+  pub run-none : (t : List ℕ) → run (sizeOf w) [] t ≡ t → length s < blockBytes (sizeOf w)
       → (t ≡ run (sizeOf w) (blocksOf (sizeOf w) s) t) × (0 ≡ length s / blockBytes (sizeOf w))
-  run-none t none size short =
-      let less : length s < blockBytes (sizeOf w) = rw (block-is w size) short in
-      (rw (blocks-short (sizeOf w) (block-some w size) s less, none), sym (div-eq-of-lt less))
-
--- the bytes of a block as the code counts them: some, and at most 256
-pub bytes-some : (w : ℕ) → isWordSize w ≡ true → 0 < 4 * w
-bytes-some w e = omega (arith, block-is w e, block-some w e)
-
-pub bytes-most : (w : ℕ) → isWordSize w ≡ true → 4 * w ≤ 256
-bytes-most w e = omega (arith, block-is w e, block-most w e)
+  run-none t none less = (rw (blocks-short (sizeOf w) (block-some w) s less, none), sym (div-eq-of-lt less))

@@ -9,10 +9,16 @@ ghost use Rattle.lsh.specs.WordSize.{isWordSize, sizeOf, blockBytes};
 ghost use Rattle.lsh.specs.Block.{Chain, forwards, backwards};
 ghost use Rattle.lsh.specs.Opening.{opening};
 ghost use Rattle.lsh.specs.Padding.{blocksOf};
-ghost use Rattle.runs.specs.Limits.{isDigestLength};
+ghost use Rattle.runs.specs.Limits.{longestBlock, longestDigest, isDigestLength};
 ghost use Rattle.runs.specs.Published.{publishedSizes, publishedLengths, openings};
+use lsh256::Lsh256;
+use lsh512::Lsh512;
 
-pub const LIMIT: usize = 1099511627776;
+// The most bytes of an order.
+pub const LIMIT: usize = 1 << 40;
+
+// The most bytes of a block.
+pub const LONGEST_BLOCK: usize = Lsh512::BLOCK;
 
 pub fn is_word_size(w: u64) -> bool
     ensures { λ b. ⌜ b ≡ isWordSize w ⌝ }
@@ -30,7 +36,24 @@ pub fn is_digest_length(w: u64, n: u64) -> bool
     if n == 0 {
         return false;
     }
-    n <= 8 * w
+    n <= longest_digest(w)
+}
+
+// Bytes of a block.
+pub fn block_bytes(w: u64) -> usize
+    ensures { λ r. ⌜ r ≡ blockBytes (sizeOf w) ⌝ }
+{
+    if w == 64 {
+        return Lsh512::BLOCK;
+    }
+    Lsh256::BLOCK
+}
+
+// The most bits of a digest: 8w, where a block has 4w bytes.
+pub fn longest_digest(w: u64) -> u64
+    ensures { λ r. ⌜ r ≡ longestDigest (sizeOf w .bits) ⌝ }
+{
+    2 * block_bytes(w) as u64
 }
 
 // The published functions: word size, digest length and the 16 words of the opening chain.
@@ -149,7 +172,7 @@ pub fn forward(w: u64, t: [u64; 16], s: &[u8]) -> Run
     ensures { λ r. ⌜ (r .chain ≡ forwards (sizeOf w) (blocksOf (sizeOf w) (now (s .entry))) t) × (r .count ≡ length (now (s .entry)) / blockBytes (sizeOf w)) ⌝ }
 {
     // An engine sets up its tables first, which a piece without a whole block need not pay for.
-    if s.len() < (4 * w) as usize {
+    if s.len() < block_bytes(w) {
         return Run { chain: t, count: 0 };
     }
     if w == 32 {
@@ -173,7 +196,7 @@ pub fn backward(w: u64, t: [u64; 16], s: &[u8]) -> Run
     requires { ⌜ (isWordSize w ≡ true) × Chain (sizeOf w) t ⌝ }
     ensures { λ r. ⌜ (r .chain ≡ backwards (sizeOf w) (blocksOf (sizeOf w) (now (s .entry))) t) × (r .count ≡ length (now (s .entry)) / blockBytes (sizeOf w)) ⌝ }
 {
-    if s.len() < (4 * w) as usize {
+    if s.len() < block_bytes(w) {
         return Run { chain: t, count: 0 };
     }
     if w == 32 {
@@ -241,10 +264,10 @@ fn published_openings() -> [u64; 96]
 
 // A block of zeros run on the chain whose words 0 and 1 are w and n.
 fn opening_run(w: u64, n: u64) -> [u64; 16]
-    requires { ⌜ (isWordSize w ≡ true) × (n ≤ 8 * w) ⌝ }
+    requires { ⌜ (isWordSize w ≡ true) × (n ≤ longestDigest w) ⌝ }
     ensures { λ r. ⌜ r ≡ opening (sizeOf w) n ⌝ }
 {
-    let size = (4 * w) as usize;
+    let size = block_bytes(w);
     let zeros = zero_bytes();
     let run = forward(w, first_chain(w, n), &zeros[..size]);
     run.chain
@@ -256,11 +279,11 @@ fn first_chain(w: u64, n: u64) -> [u64; 16]
     [w, n, 0, 0, 0, 0, 0, 0, 0, 0, 0, 0, 0, 0, 0, 0]
 }
 
-// 256 zeros, as many as a block has at most.
-pub fn zero_bytes() -> [u8; 256]
-    ensures { λ r. ⌜ r ≡ replicate 256 0 ⌝ }
+// As many zeros as a block has bytes at most.
+pub fn zero_bytes() -> [u8; LONGEST_BLOCK]
+    ensures { λ r. ⌜ r ≡ replicate longestBlock 0 ⌝ }
 {
-    [0u8; 256]
+    [0u8; LONGEST_BLOCK]
 }
 
 // The same numbers as words of 32 bits, and back.

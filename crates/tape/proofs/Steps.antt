@@ -74,7 +74,7 @@ module _ (w : ℕ) (word : isWordSize w ≡ true) where
   B = blockBytes Z
 
   some : 0 < B
-  some = block-some w word
+  some = block-some w
 
   -- the count of an Append takes the whole blocks from what they were to what they are
   pub append-count : (s p : List ℕ) → tapeAppend w s p .answer .count + wholeBlocks w s ≡ 0 + wholeBlocks w (tapeAppend w s p .next)

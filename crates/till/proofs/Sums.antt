@@ -3,17 +3,17 @@
 use mathlib.Core.Path.{_≡_, refl, ap}
 use mathlib.Core.Bool.{Bool, true, false}
 use mathlib.Core.List.{List}
-use Prim.Native.Nat.{ℕ, _+_, _*_, _%_, _^_, _<_}
+use Prim.Native.Nat.{ℕ, _+_, _*_, _%_, _<_}
 use native.Mathlib.Numerals.{add-one}
 use lib.ListN.{length, drop}
 use lib.Seq.{drop-cons}
 use Rattle.lsh.specs.Tabulate.{at}
 use Rattle.equal.specs.Equal.{equal}
 use Rattle.equal.proofs.Equal.{equal-true}
-use Rattle.till.specs.Checksum.{checksum, checksumAfter}
+use Rattle.till.specs.Checksum.{checksumBound, checksum, checksumAfter}
 
 -- the bytes from place i on, by the byte there
-pub checksum-at : (s : List ℕ) (i c : ℕ) → i < length s → checksumAfter c (drop i s) ≡ checksumAfter ((257 * c + at s i) % 2 ^ 55) (drop (i + 1) s)
+pub checksum-at : (s : List ℕ) (i c : ℕ) → i < length s → checksumAfter c (drop i s) ≡ checksumAfter ((257 * c + at s i) % checksumBound) (drop (i + 1) s)
 unfolding checksumAfter
 checksum-at s i c h = rw (add-one, drop-cons s i 0 h)
 

@@ -19,10 +19,9 @@ use Rattle.lsh.proofs.Tabulate.{length-tabulate, at-tabulate}
 use Rattle.lsh.proofs.Figures.{bits-are}
 use Rattle.lsh.proofs.Bytes.{octets}
 use Rattle.message.proofs.Bits.{length-bits, number-zeros}
-use Rattle.runs.specs.Limits.{isDigestLength}
-use Rattle.runs.proofs.Limits.{digest-most}
-use Rattle.runs.proofs.Sizes.{bytes-most}
-use Rattle.finalization.specs.Receipt.{receiptBytes, receipt}
+use Rattle.runs.specs.Limits.{longestDigest, isDigestLength}
+use Rattle.runs.proofs.Limits.{digest-most, digest-longest}
+use Rattle.finalization.specs.Receipt.{receiptBytes, digestPlace, receipt}
 use Rattle.finalization.specs.Ending.{messageBits}
 use Rattle.finalization.proofs.FinalBytes.{length-final}
 use Rattle.finalization.proofs.Receipts.{at-receipt}
@@ -58,14 +57,14 @@ module _ (w n : ℕ) (d : List Bool) (word : isWordSize w ≡ true) (digestLengt
   abbrev zeros : List ℕ
   zeros = replicate (receiptBytes - length front) 0
 
-  front-length : length front ≡ 4 + (n + 7) / 8
+  front-length : length front ≡ digestPlace + (n + 7) / 8
   unfolding bytesOfBits
   front-length =
       let e : length bytes ≡ (length d + 7) / 8 = length-tabulate ((length d + 7) / 8) (λ l. numberOf 8 (drop (8 * l) d)) in
       omega arith
 
-  few : n ≤ 512
-  few = omega (arith, digest-most w n digestLength, bytes-most w word)
+  few : n ≤ longestDigest 64
+  few = digest-longest w n word digestLength
 
   pub receipt-long : length (receipt w n d) ≡ receiptBytes
   unfolding receipt receiptBytes
@@ -77,13 +76,13 @@ module _ (w n : ℕ) (d : List Bool) (word : isWordSize w ≡ true) (digestLengt
   unfolding lengthOf receipt
   length-is = omega arith
 
-  last-byte : (n % 8 ≡ 0 → ⊥) → at (receipt w n d) (4 + n / 8) % 2 ^ (8 - n % 8) ≡ 0
+  last-byte : (n % 8 ≡ 0 → ⊥) → at (receipt w n d) (digestPlace + n / 8) % 2 ^ (8 - n % 8) ≡ 0
   unfolding bytesOfBits
   last-byte some =
       let m : List Bool = drop (8 * (n / 8)) d in
       let left : length m ≡ n % 8 = omega (arith, length-drop (8 * (n / 8)) d) in
       let eight : 8 ≡ length m + (8 - n % 8) = omega arith in
-      let place : 4 + n / 8 ≡ suc (suc (suc (suc (n / 8)))) = omega arith in
+      let place : digestPlace + n / 8 ≡ suc (suc (suc (suc (n / 8)))) = omega arith in
       ap (λ (x : ℕ). x % 2 ^ (8 - n % 8))
       (sym (at-receipt w n d (suc (suc (suc (suc (n / 8))))) place) ∙ at-tabulate ((length d + 7) / 8) (λ l. numberOf 8 (drop (8 * l) d)) (n / 8) (omega arith)
       ∙ ap (λ (j : ℕ). numberOf j m) eight)
@@ -95,11 +94,11 @@ module _ (w n : ℕ) (d : List Bool) (word : isWordSize w ≡ true) (digestLengt
     where
       go : (b : Bool) → eqb (n % 8) 0 ≡ b → unusedZero (receipt w n d) n ≡ true
       go true is = rw is
-      go false is = rw (is, eq-eqb (at (receipt w n d) (4 + n / 8) % 2 ^ (8 - n % 8)) 0 (last-byte (eqb-false (n % 8) 0 is)))
+      go false is = rw (is, eq-eqb (at (receipt w n d) (digestPlace + n / 8) % 2 ^ (8 - n % 8)) 0 (last-byte (eqb-false (n % 8) 0 is)))
 
-  zero-after : allZero (drop (4 + (n + 7) / 8) (receipt w n d)) ≡ true
+  zero-after : allZero (drop (digestPlace + (n + 7) / 8) (receipt w n d)) ≡ true
   unfolding receipt
-  zero-after = ap allZero (drop-at front zeros (4 + (n + 7) / 8) front-length) ∙ all-zero (receiptBytes - length front)
+  zero-after = ap allZero (drop-at front zeros (digestPlace + (n + 7) / 8) front-length) ∙ all-zero (receiptBytes - length front)
 
   byte-0 : at (receipt w n d) 0 ≡ w
   unfolding receipt

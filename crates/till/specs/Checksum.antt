@@ -3,10 +3,14 @@
 use mathlib.Core.List.{List, [], _∷_}
 use Prim.Native.Nat.{ℕ, _+_, _*_, _%_, _^_}
 
+-- a checksum is below this
+abbrev pub checksumBound : ℕ
+checksumBound = 2 ^ 55
+
 -- of the bytes after those whose checksum is c
 unfoldable pub checksumAfter : ℕ → List ℕ → ℕ
 checksumAfter c [] = c
-checksumAfter c (x ∷ xs) = checksumAfter ((257 * c + x) % 2 ^ 55) xs
+checksumAfter c (x ∷ xs) = checksumAfter ((257 * c + x) % checksumBound) xs
 
 unfoldable pub checksum : List ℕ → ℕ
 checksum s = checksumAfter 0 s

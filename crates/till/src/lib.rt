@@ -3,16 +3,21 @@ ghost use mathlib.Core.Path.{_≡_};
 ghost use Prim.Native.Nat.{ℕ, _*_, _<_, _≤_};
 ghost use lib.ListN.{length};
 ghost use Rattle.lsh.specs.Tabulate.{at};
+ghost use Rattle.runs.specs.Limits.{longestDigest};
 ghost use Rattle.finalization.specs.Receipt.{receiptBytes};
 ghost use Rattle.equal.specs.Equal.{equal};
 ghost use Rattle.till.specs.WellFormed.{lengthOf, unusedZero, wellFormed};
 ghost use Rattle.till.specs.Same.{sameCall};
 ghost use Rattle.till.specs.Tally.{mostReceipts, receiptCount, receiptAt, receipts, firstMalformed, isOneOf, counted, refusedTally, tallyCall};
 ghost use Rattle.till.specs.Checksum.{checksum};
+use finalization::DIGEST;
 use finalization::RECEIPT;
 
 // The most receipts of a list.
 pub const MOST_RECEIPTS: usize = 960;
+
+// A checksum is below this, so that 257 times it and a byte more fit in 64 bits.
+const CHECKSUM_BOUND: u64 = 1 << 55;
 
 // The answer to Same: its number, and whether the two receipts are the same. C has it as lsh_sameness.
 #[repr(C)]
@@ -98,7 +103,7 @@ fn is_well_formed(r: &[u8]) -> bool
     if !is_unused_zero(r, n) {
         return false;
     }
-    let after = (4 + (n + 7) / 8) as usize;
+    let after = DIGEST + ((n + 7) / 8) as usize;
     record::zero_from(r, after)
 }
 
@@ -112,13 +117,13 @@ fn length_of(r: &[u8]) -> u64
 
 // Whether the bits of the digest's last byte that it does not use are 0.
 fn is_unused_zero(r: &[u8], n: u64) -> bool
-    requires { ⌜ (length (now r) ≡ receiptBytes) × (n ≤ 512) ⌝ }
+    requires { ⌜ (length (now r) ≡ receiptBytes) × (n ≤ longestDigest 64) ⌝ }
     ensures { λ b. ⌜ b ≡ unusedZero (now (r .entry)) n ⌝ }
 {
     if n % 8 == 0 {
         return true;
     }
-    let last = (4 + n / 8) as usize;
+    let last = DIGEST + (n / 8) as usize;
     finalization::low_bits(r[last], (n % 8) as u32) == 0
 }
 
@@ -237,14 +242,14 @@ fn no_sums() -> [u64; MOST_RECEIPTS] {
     [0u64; MOST_RECEIPTS]
 }
 
-// The checksum of a receipt. It stays below 2^55, so that 257 times it and a byte more fit in 64 bits.
+// The checksum of a receipt.
 fn sum_of(r: &[u8]) -> u64
     ensures { λ c. ⌜ c ≡ checksum (now (r .entry)) ⌝ }
 {
     let mut c: u64 = 0;
     let mut i: usize = 0;
     while i < r.len() {
-        c = (257 * c + r[i] as u64) % 36028797018963968;
+        c = (257 * c + r[i] as u64) % CHECKSUM_BOUND;
         i += 1;
     }
     c

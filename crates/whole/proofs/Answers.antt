@@ -66,7 +66,7 @@ module _ (w n : ℕ) (m : List ℕ) (last e : ℕ) (output : List ℕ) where
       let tail : List ℕ = replicate (blockBytes (sizeOf w) - 1 - length m % blockBytes (sizeOf w)) 0 in
       let whole : m ++ p ∷ tail ≡ bytesOfBits (padded (sizeOf w) (messageBits m last e)) =
       ap (λ (b : ℕ). m ++ b ∷ tail) pad
-      ∙ sym (padded-bytes (sizeOf w) m last e (block-some w (a .wordSize)) bytes byte (a .end .extra) (a .end .low)) in (
+      ∙ sym (padded-bytes (sizeOf w) m last e (block-some w) bytes byte (a .end .extra) (a .end .low)) in (
         sym is,
         stored
             ∙ ap (λ (c : List ℕ). receipt w n (digest (sizeOf w) n c) ++ drop receiptBytes output)

@@ -1,11 +1,10 @@
 -- The chain after all blocks of a message: its whole blocks, and then the block of what is left over and the padding.
 -- Assumes nothing.
 use mathlib.Core.Path.{_≡_, sym, ap, _∙_, subst}
-use mathlib.Core.Bool.{true}
 use mathlib.Core.List.{List, _∷_, _++_}
 use Prim.Native.Nat.{ℕ, _-_, _/_, _%_}
 use lib.ListN.{length, replicate}
-use Rattle.lsh.specs.WordSize.{WordSize, isWordSize, sizeOf, blockBytes}
+use Rattle.lsh.specs.WordSize.{WordSize, sizeOf, blockBytes}
 use Rattle.lsh.specs.Block.{Chain, forwards}
 use Rattle.lsh.specs.Opening.{opening}
 use Rattle.lsh.specs.Padding.{blocksOf, restOf}
@@ -27,20 +26,20 @@ module _ (w n : ℕ) where
   run-chain bs {t} h e = subst (Chain (sizeOf w)) (sym e) (forwards-chain (sizeOf w) (amounts w) bs t h)
 
   -- the run over what is left after the whole blocks of m, with the padding
-  module _ (m : List ℕ) (size : isWordSize w ≡ true) {k : ℕ} (count : k ≡ length m / blockBytes (sizeOf w)) where
+  module _ (m : List ℕ) {k b : ℕ} (count : k ≡ length m / blockBytes (sizeOf w)) (size : b ≡ blockBytes (sizeOf w)) where
     abbrev z : WordSize
     z = sizeOf w
 
     abbrev left : List ℕ
-    left = rest w m size count
+    left = rest w m count size
 
     pub last-run : (p : ℕ) {t c : List ℕ} → t ≡ opening z n → c ≡ forwards z (blocksOf z m) t
         → forwards z (blocksOf z (left ++ p ∷ replicate (blockBytes z - 1 - length left) 0)) c
         ≡ forwards z (blocksOf z (m ++ p ∷ replicate (blockBytes z - 1 - length m % blockBytes z) 0)) (opening z n)
     last-run p {t} {c} first run =
         let tail : List ℕ = p ∷ replicate (blockBytes z - 1 - length m % blockBytes z) 0 in
-        ap (λ (l : ℕ). forwards z (blocksOf z (left ++ p ∷ replicate (blockBytes z - 1 - l) 0)) c) (rest-length w m size count)
-        ∙ ap (λ (s : List ℕ). forwards z (blocksOf z (s ++ tail)) c) (rest-is w m size count)
+        ap (λ (l : ℕ). forwards z (blocksOf z (left ++ p ∷ replicate (blockBytes z - 1 - l) 0)) c) (rest-length w m count size)
+        ∙ ap (λ (s : List ℕ). forwards z (blocksOf z (s ++ tail)) c) (rest-is w m count size)
         ∙ ap (forwards z (blocksOf z (restOf z m ++ tail))) (run ∙ ap (forwards z (blocksOf z m)) first)
         ∙ sym (forwards-append z (blocksOf z m) (blocksOf z (restOf z m ++ tail)) (opening z n))
-        ∙ sym (ap (λ (bs : List (List ℕ)). forwards z bs (opening z n)) (blocks-append z (block-some w size) m tail))
+        ∙ sym (ap (λ (bs : List (List ℕ)). forwards z bs (opening z n)) (blocks-append z (block-some w) m tail))

@@ -47,7 +47,6 @@ fn final_chain(w: u64, n: u64, message: &[u8], pad: u8) -> [u64; 16]
 {
     let run = runs::forward(w, runs::opening(w, n), message);
     let c = run.chain;
-    let size = (4 * w) as usize;
-    let whole = run.count * size;
+    let whole = run.count * runs::block_bytes(w);
     finalization::last_chain(w, c, &message[whole..], pad)
 }

@@ -7,6 +7,7 @@ use mir.Syntax.{w8}
 use mir.Val.{Fits}
 use borrow.Author.Needs.{needs}
 use Rattle.lsh.proofs.Bytes.{Bytes}
+use Rattle.runs.specs.Limits.{longestBlock}
 use Rattle.record.proofs.Sound.{Sound, sounds}
 use Rattle.runs.proofs.Limits.{digest-most}
 use Rattle.whole.proofs.FinalChain.{run-chain}
@@ -15,7 +16,7 @@ use Rattle.close.proofs.Answers.{Accepted, accepted, refused-output, ac
 use Rattle.close.proofs.close.Statement.{statement}
 use Rattle.close.proofs.close.Tie as tie
 
-long : (z : tie.Start) → length (z .args .r .held) ≡ 256
+long : (z : tie.Start) → length (z .args .r .held) ≡ longestBlock
 long z = search needs
 
 words : (z : tie.Start) → length (z .args .r .chain) ≡ 16

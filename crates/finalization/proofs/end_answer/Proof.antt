@@ -16,5 +16,5 @@ end-answer-spec =
     (λ c. search needs)
     (λ c κs. search needs)
     (λ c. rw (le-ltb 7 _ (c .before .before .if1 .left), ne-eqb _ 0 (λ e. c .if2 .taken (c .before .low-bits .ensures ∙ e))))
-    (λ c. rw (le-ltb 7 _ (c .before .before .before .if1 .left), eq-eqb _ 0 (sym (c .before .before .low-bits .ensures) ∙ c .before .if2 .left), lt-ltb _ 68 (c .if3 .taken)))
-    (λ c. rw (le-ltb 7 _ (c .before .before .before .if1 .left), eq-eqb _ 0 (sym (c .before .before .low-bits .ensures) ∙ c .before .if2 .left), le-ltb _ 68 (c .if3 .left))))
+    (λ c. rw (le-ltb 7 _ (c .before .before .before .if1 .left), eq-eqb _ 0 (sym (c .before .before .low-bits .ensures) ∙ c .before .if2 .left), lt-ltb _ receiptBytes (c .if3 .taken)))
+    (λ c. rw (le-ltb 7 _ (c .before .before .before .if1 .left), eq-eqb _ 0 (sym (c .before .before .low-bits .ensures) ∙ c .before .if2 .left), le-ltb _ receiptBytes (c .if3 .left))))

@@ -12,7 +12,7 @@ use Rattle.finalization.proofs.write_receipt.Statement.{statement}
 use Rattle.finalization.proofs.write_receipt.Tie as tie
 
 abbrev Inv-loop : tie.InvT-loop
-Inv-loop w n t output₀ end i₀ output i = Placed 68 (λ k. k) (at (receipt w n (digest (sizeOf w) n t))) output₀ output i
+Inv-loop w n t output₀ end i₀ output i = Placed receiptBytes (λ k. k) (at (receipt w n (digest (sizeOf w) n t))) output₀ output i
 
 abbrev μ-loop : tie.MeasureT-loop
 μ-loop w n t output₀ end i₀ output i = end - i

@@ -1,16 +1,16 @@
 -- `record::append` meets its contract. Assumes nothing.
 use mathlib.Core.Path.{_≡_, sym, _∙_}
 use mathlib.Core.Bool.{true}
-use Prim.Native.Nat.{_+_, _*_, _≤_, _<_}
-use native.Mathlib.Nat.{mod-lt}
+use Prim.Native.Nat.{_+_, _≤_, _<_}
+use native.Mathlib.Nat.{mod-le}
 use native.Mathlib.Omega.{arith}
 use lib.ListN.{length}
 use borrow.Author.Needs.{needs}
 use borrow.Author.Tests.{lt-ltb, le-ltb, not-true, not-false}
+use Rattle.lsh.specs.WordSize.{sizeOf, blockBytes}
 use Rattle.runs.specs.Limits.{limit}
 use Rattle.record.specs.Record.{sound}
 use Rattle.record.specs.Calls.{appendAccepted, appendCall}
-use Rattle.runs.proofs.Sizes.{bytes-some, bytes-most}
 use Rattle.record.proofs.Sound.{Sound, sounds}
 use Rattle.record.proofs.append.Statement.{statement}
 use Rattle.record.proofs.append.Tie as tie
@@ -21,12 +21,6 @@ sound-is c = sym (c .before .is-sound .ensures) ∙ not-false _ (c .if1 .left)
 
 is-sound : (c : tie.Else1) → Sound (c .before .before .before .args .r)
 is-sound c = sounds (c .before .before .before .args .r) (sound-is c)
-
-most : (c : tie.Else1) → 4 * c .before .before .before .args .r .w ≤ 256
-most c = bytes-most _ (is-sound c .word)
-
-some : (c : tie.Else1) → 0 < 4 * c .before .before .before .args .r .w
-some c = bytes-some _ (is-sound c .word)
 
 -- the piece does not pass the limit
 within : (c : tie.Else2) → c .before .before .before .before .args .r .total + length (c .before .before .before .before .args .piece .now) ≤ limit
@@ -57,8 +51,8 @@ returns-2 c =
 add-if4 : tie.Need-add-if4
 unfolding limit
 add-if4 c =
-    let r = c .before .before .before .before .before .args .r in
-    record { fits = omega (arith, within (c .before), mod-lt (r .total) (some (c .before .before)), most (c .before .before)) }
+    let r = c .before .before .before .before .before .before .args .r in
+    record { fits = omega (arith, within (c .before .before), mod-le (r .total) (blockBytes (sizeOf (r .w)))) }
 
 pub append-spec : {M : Type 1} → statement M
 append-spec =
@@ -70,13 +64,12 @@ append-spec =
     sub-if2
     (λ c κs. search needs)
     returns-2
-    (λ c. record { fits = omega (arith, most (c .before)) })
-    (λ c. some (c .before))
-    (λ c κs. (sound-is (c .before .before), within (c .before), c .if3 .taken))
-    (λ c. c .append-even .ensures ∙ sym (accepted (c .before .before)))
+    (λ c κs. search needs)
+    (λ c κs. let e = c .before .before in (sound-is (e .before), within e, sym (c .before .held-length .ensures) ∙ c .if3 .taken))
+    (λ c. c .append-even .ensures ∙ sym (accepted (c .before .before .before)))
     add-if4
-    (λ c. record { fits = omega (arith, most (c .before .before)) })
-    (λ c κs. (sound-is (c .before .before .before), within (c .before .before), c .if4 .taken))
-    (λ c. c .append-short .ensures ∙ sym (accepted (c .before .before .before)))
-    (λ c κs. (sound-is (c .before .before .before), within (c .before .before), c .if4 .left))
-    (λ c. c .append-long .ensures ∙ sym (accepted (c .before .before .before))))
+    (λ c κs. search needs)
+    (λ c κs. let e = c .before .before .before .before in (sound-is (e .before), within e, omega arith))
+    (λ c. c .append-short .ensures ∙ sym (accepted (c .before .before .before .before .before)))
+    (λ c κs. let e = c .before .before .before .before in (sound-is (e .before), within e, omega arith))
+    (λ c. c .append-long .ensures ∙ sym (accepted (c .before .before .before .before .before))))

@@ -3,7 +3,7 @@ use mathlib.Core.Path.{_≡_, sym}
 use native.Mathlib.Omega.{arith}
 use lib.ListN.{length}
 use borrow.Author.Needs.{needs}
-use Rattle.runs.specs.Limits.{limit}
+use Rattle.runs.specs.Limits.{longestBlock, limit}
 use Rattle.record.proofs.Sound.{sounds, chain-is}
 use Rattle.record.proofs.Appending.{even}
 use Rattle.record.proofs.append_even.Statement.{statement}
@@ -12,7 +12,7 @@ use Rattle.record.proofs.append_even.Tie as tie
 words : (z : tie.Start) → length (z .args .r .chain) ≡ 16
 words z = search needs
 
-long : (z : tie.Start) → length (z .args .r .held) ≡ 256
+long : (z : tie.Start) → length (z .args .r .held) ≡ longestBlock
 long z = search needs
 
 take-whole-requires : tie.Need-take-whole-requires

@@ -1,21 +1,23 @@
 -- `record::append_long` meets its contract. Assumes nothing.
 use mathlib.Core.Path.{_≡_, sym, ap, _∙_, subst}
 use mathlib.Core.List.{List}
-use Prim.Native.Nat.{ℕ, _-_, _*_, _/_, _≤_, _<_}
-use native.Mathlib.Nat.{div-le-self, le-of-eq}
+use Prim.Native.Nat.{ℕ, _-_, _/_, _≤_}
+use native.Mathlib.Nat.{div-le-self}
 use native.Mathlib.Omega.{arith}
 use lib.ListN.{length, take, drop, length-drop}
-use lib.Seq.{take-all, length-take-le}
+use lib.Seq.{length-take-le}
 use borrow.Author.Needs.{needs}
 use Rattle.lsh.specs.WordSize.{sizeOf, blockBytes}
 use Rattle.lsh.specs.Block.{Chain}
 use Rattle.lsh.proofs.Figures.{amounts}
 use Rattle.lsh.proofs.Blocks.{forwards-chain}
-use Rattle.runs.specs.Limits.{limit}
+use Rattle.runs.specs.Limits.{longestBlock, limit}
+use Rattle.runs.proofs.Limits.{block-most}
+use Rattle.runs.proofs.Rest.{from-place}
 use Rattle.record.specs.declared.Record.{Record}
-use Rattle.runs.proofs.Sizes.{bytes-some, bytes-most}
 use Rattle.record.proofs.Sound.{Sound, sounds, chain-is}
-use Rattle.record.proofs.Appending.{place, room, place-lt, filling-length, first-block, filled}
+use Rattle.record.proofs.Held.{fill-lt}
+use Rattle.record.proofs.Appending.{room, first-block, filled}
 use Rattle.record.proofs.append_long.Statement.{statement}
 use Rattle.record.proofs.append_long.Tie as tie
 
@@ -30,7 +32,7 @@ module _ (z : tie.Start) where
   is-sound : Sound R
   is-sound = sounds R (z .pre .0)
 
-  long : length (R .held) ≡ 256
+  long : length (R .held) ≡ longestBlock
   long = search needs
 
   words : length (R .chain) ≡ 16
@@ -39,36 +41,36 @@ module _ (z : tie.Start) where
   chain : Chain (sizeOf (R .w)) (R .chain)
   chain = chain-is (R .w) (R .chain) (is-sound .word) words (is-sound .below)
 
-  most : 4 * R .w ≤ 256
-  most = bytes-most (R .w) (is-sound .word)
-
-  some-room : place R < 4 * R .w
-  some-room = place-lt R (z .pre .0) long P
-
   room-le : room R ≤ length P
   room-le = omega (arith, z .pre .2)
 
-  room-length : length (take (room R) P) ≡ room R
-  room-length = filling-length R (z .pre .0) long P room-le
+-- once the size of a block and the place are known
+module _ (c : tie.After-held-length) where
+  abbrev Z : tie.Start
+  Z = c .before .before .before .before .before
 
-  after-is : take (length P - room R) (drop (room R) P) ≡ drop (room R) P
-  after-is = take-all (length P - room R) (drop (room R) P) (le-of-eq (length-drop (room R) P))
+  abbrev k : ℕ
+  k = c .before .block-bytes .result - c .held-length .result
+
+  place-in : c .held-length .result ≤ c .before .block-bytes .result
+  place-in = omega (arith, fill-lt (R Z) (long Z))
+
+  size-most : c .before .block-bytes .result ≤ longestBlock
+  size-most = omega (arith, block-most (R Z .w))
+
+  filling : length (take k (P Z)) ≡ k
+  filling = length-take-le k (P Z) (omega (arith, Z .pre .2))
 
 -- the held bytes with the first bytes of the piece
-first-long : (c : tie.After-put) → length (c .put .result) ≡ 256
+first-long : (c : tie.After-put) → length (c .put .result) ≡ longestBlock
 first-long c = search needs
 
-block-in : (c : tie.After-put) → 4 * R (c .before .before .before .before .before) .w ≤ length (c .put .result)
-block-in c = omega (arith, first-long c, most (c .before .before .before .before .before))
-
-put-requires : tie.Need-put-requires
-put-requires c κs =
-    let z = c .before .before .before .before in
-    omega (arith, room-length z, some-room z, most z)
+block-in : (c : tie.After-put) → c .before .before .before .block-bytes .result ≤ length (c .put .result)
+block-in c = omega (arith, first-long c, size-most (c .before .before))
 
 take-whole-requires : tie.Need-take-whole-requires
 take-whole-requires c κs =
-    let z = c .before .before .before .before .before .before .before .before .before in (
+    let z = Z (c .before .before .before .before .before .before) in (
       is-sound z .word,
       subst (Chain (sizeOf (R z .w))) (sym (c .before .before .forward .ensures .0))
           (forwards-chain (sizeOf (R z .w)) (amounts (R z .w)) _ (R z .chain) (chain z)),
@@ -77,45 +79,56 @@ take-whole-requires c κs =
 add-count : tie.Need-add-count
 unfolding limit
 add-count c =
-    let z = c .before .before .before .before .before .before .before .before .before .before .before in
+    let a = c .before .before .before .before .before .before .before .before in
+    let z = Z a in
     let B : ℕ = blockBytes (sizeOf (R z .w)) in
     record {
       fits =
           omega (
             arith,
-            c .before .take-whole .ensures .1 ∙ ap (λ (s : List ℕ). length s / B) (after-is z),
-            length-drop (room (R z)) (P z),
-            div-le-self (length (drop (room (R z)) (P z))) B,
+            c .before .take-whole .ensures .1 ∙ ap (λ (s : List ℕ). length s / B) (from-place (P z) (k a)),
+            length-drop (k a) (P z),
+            div-le-self (length (drop (k a) (P z))) B,
             z .pre .1,
           );
     }
 
 add-sum : tie.Need-add-sum
 unfolding limit
-add-sum c = record { fits = omega (arith, c .before .before .before .before .before .before .before .before .before .before .before .before .before .pre .1) }
+add-sum c = record { fits = omega (arith, Z (c .before .before .before .before .before .before .before .before .before .before) .pre .1) }
 
 returns : tie.Need-returns
 returns c =
-    let z = c .before .before .before .before .before .before .before .before .before .before .before .before .before in
+    let a = c .before .before .before .before .before .before .before .before .before .before in
+    let z = Z a in
     let t = c .before .before .before .take-whole in
     let f = c .before .before .before .before .before .before .forward in
     let u = c .before .before .before .before .before .before .before .before .put in
-    rw (t .ensures .0, t .ensures .1, t .ensures .2, after-is z, f .ensures .0, u .ensures, first-block (R z) (z .pre .0) (long z) (P z) (room-le z))
+    rw (
+      t .ensures .0,
+      t .ensures .1,
+      t .ensures .2,
+      f .ensures .0,
+      u .ensures,
+      a .before .block-bytes .ensures,
+      a .held-length .ensures,
+      from-place (P z) (room (R z)),
+      first-block (R z) (z .pre .0) (long z) (P z) (room-le z),
+    )
     (sym (filled (R z) (z .pre .0) (long z) (P z) (room-le z)))
 
 pub append-long-spec : {M : Type 1} → statement M
 append-long-spec =
     tie.close
     (tie.spec
-    (λ c. record { fits = omega (arith, most (c .before .before .before)) })
-    (λ c. record { fits = omega (arith, most (c .before .before .before)) })
-    (λ c. bytes-some _ (is-sound (c .before .before .before) .word))
-    (λ c. omega (arith, some-room (c .before .before .before)))
-    (λ c. sym (room-length (c .before .before .before .before)))
-    put-requires
+    (λ c κs. search needs)
+    (λ c κs. search needs)
+    place-in
+    (λ c. sym (filling (c .before)))
+    (λ c κs. omega (arith, filling (c .before), place-in (c .before), size-most (c .before)))
     block-in
     (λ c. sym (length-take-le _ (c .before .put .result) (block-in (c .before))))
-    (λ c κs. (is-sound (c .before .before .before .before .before .before) .word, chain (c .before .before .before .before .before .before)))
+    (λ c κs. let z = Z (c .before .before .before) in (is-sound z .word, chain z))
     (λ c. search needs)
     (λ c. search needs)
     (λ c. search needs)

@@ -3,31 +3,29 @@ use mathlib.Core.Path.{_≡_, sym}
 use native.Mathlib.Omega.{arith}
 use lib.ListN.{length}
 use borrow.Author.Needs.{needs}
-use Rattle.runs.specs.Limits.{limit}
-use Rattle.runs.proofs.Sizes.{bytes-some, bytes-most}
-use Rattle.record.proofs.Sound.{sounds}
+use Rattle.runs.specs.Limits.{longestBlock, limit}
+use Rattle.runs.proofs.Limits.{block-most}
 use Rattle.record.proofs.Appending.{short}
 use Rattle.record.proofs.append_short.Statement.{statement}
 use Rattle.record.proofs.append_short.Tie as tie
 
-long : (z : tie.Start) → length (z .args .r .held) ≡ 256
+long : (z : tie.Start) → length (z .args .r .held) ≡ longestBlock
 long z = search needs
 
 add-sum : tie.Need-add-sum
 unfolding limit
-add-sum c = record { fits = omega (arith, c .before .before .before .before .pre .1) }
+add-sum c = record { fits = omega (arith, c .before .before .before .before .before .pre .1) }
 
 returns : tie.Need-returns
 returns c =
-    let z = c .before .before .before .before in
-    rw (c .put .ensures) (sym (short (z .args .r) (z .pre .0) (long z) (z .args .piece .now) (z .pre .2)))
+    let z = c .before .before .before .before .before in
+    rw (c .put .ensures, c .before .held-length .ensures) (sym (short (z .args .r) (z .pre .0) (long z) (z .args .piece .now) (z .pre .2)))
 
 pub append-short-spec : {M : Type 1} → statement M
 append-short-spec =
     tie.close
     (tie.spec
-    (λ c. record { fits = omega (arith, bytes-most _ (sounds _ (c .before .before .before .pre .0) .word)) })
-    (λ c. bytes-some _ (sounds _ (c .before .before .before .pre .0) .word))
-    (λ c κs. omega (arith, c .before .before .before .pre .2, bytes-most _ (sounds _ (c .before .before .before .pre .0) .word)))
+    (λ c κs. search needs)
+    (λ c κs. omega (arith, c .held-length .ensures, c .before .before .before .before .pre .2, block-most (c .before .before .before .before .args .r .w)))
     add-sum
     returns)

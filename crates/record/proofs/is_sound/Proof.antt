@@ -1,18 +1,15 @@
 -- `record::is_sound` meets its contract, test by test. Assumes nothing.
 use mathlib.Core.Path.{_≡_, sym, ap, _∙_}
 use mathlib.Core.Bool.{true, false}
-use Prim.Native.Nat.{ℕ, _%_, _^_}
-use native.Mathlib.Omega.{arith}
+use Prim.Native.Nat.{ℕ, _^_}
 use lib.Dec.{leb}
 use lib.ListN.{drop}
 use borrow.Author.Needs.{needs}
 use borrow.Author.Tests.{not-true, not-false, le-leb, lt-leb}
 use Rattle.lsh.specs.WordSize.{isWordSize}
-use Rattle.lsh.proofs.Figures.{block-is}
 use Rattle.runs.specs.Limits.{isDigestLength, limit}
 use Rattle.record.specs.declared.Record.{Record}
 use Rattle.record.specs.Record.{allBelow, allZero, sound}
-use Rattle.runs.proofs.Sizes.{bytes-some, bytes-most}
 use Rattle.record.proofs.is_sound.Statement.{statement}
 use Rattle.record.proofs.is_sound.Tie as tie
 
@@ -56,12 +53,12 @@ returns-4 c =
 returns-5 : tie.Need-returns-5
 unfolding sound
 returns-5 c =
-    let e = c .before .before .before .before in
+    let h = c .before .before in
+    let e = h .before .before .before in
     let r : Record = e .before .before .before .before .before .before .before .args .r in
-    let w : isWordSize (r .w) ≡ true = word-passed (e .before .before .before) in
-    let f : allBelow (2 ^ r .w) (r .chain) ≡ true = sym (c .before .before .before .words-below .ensures) ∙ not-false _ (c .before .before .if4 .left) in
-    rw (w, digest-passed (e .before), few-passed e, f)
-    (c .zero-from .ensures ∙ ap (λ (k : ℕ). allZero (drop (r .total % k) (r .held))) (sym (block-is (r .w) w)))
+    let f : allBelow (2 ^ r .w) (r .chain) ≡ true = sym (h .before .before .words-below .ensures) ∙ not-false _ (h .before .if4 .left) in
+    rw (word-passed (e .before .before .before), digest-passed (e .before), few-passed e, f)
+    (c .zero-from .ensures ∙ ap (λ (k : ℕ). allZero (drop k (r .held))) (h .held-length .ensures))
 
 pub is-sound-spec : {M : Type 1} → statement M
 is-sound-spec =
@@ -74,8 +71,7 @@ is-sound-spec =
     returns-3
     (λ c κs. word-passed (c .before .before .before))
     returns-4
-    (λ c. record { fits = omega (arith, bytes-most _ (word-passed (c .before .before .before .before .before))) })
-    (λ c. bytes-some _ (word-passed (c .before .before .before .before .before)))
+    (λ c κs. search needs)
     (λ c. search needs)
     (λ c κs. search needs)
     returns-5)

@@ -6,23 +6,24 @@ use native.Mathlib.Omega.{arith}
 use lib.ListN.{length, length-set}
 use lib.Seq.{paste, paste-zero, paste-suc}
 use borrow.Author.Needs.{needs}
+use Rattle.runs.specs.Limits.{longestBlock}
 use Rattle.record.proofs.put.Statement.{statement}
 use Rattle.record.proofs.put.Tie as tie
 
 abbrev Inv-loop : tie.InvT-loop
-Inv-loop at part h₀ i₀ h i = (i ≤ length part) × (h ≡ paste h₀ at part i) × (length h ≡ 256)
+Inv-loop at part h₀ i₀ h i = (i ≤ length part) × (h ≡ paste h₀ at part i) × (length h ≡ longestBlock)
 
 abbrev μ-loop : tie.MeasureT-loop
 μ-loop at part h₀ i₀ h i = length part - i
 
-long : (c : tie.At-loop Inv-loop μ-loop) → length (c .before .args .held) ≡ 256
+long : (c : tie.At-loop Inv-loop μ-loop) → length (c .before .args .held) ≡ longestBlock
 long c = search needs
 
 loop-again : tie.Need-loop-again Inv-loop μ-loop
 loop-again c =
     let l = c .before .before in
     let a = l .before .args in
-    let e : length (a .held) ≡ 256 = long l in
+    let e : length (a .held) ≡ longestBlock = long l in
     let i-in : l .loop .i < length (a .part .now) = omega arith in
     let at-in : a .at + l .loop .i < length (a .held) = omega arith in (
       omega arith,

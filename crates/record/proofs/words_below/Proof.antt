@@ -38,7 +38,7 @@ loop-again c =
     let l = c .before .before in
     let s = l .before .before .args .chain in (
       omega arith,
-      rw (l .loop .inv .1, below-at (2 ^ 32) s (l .loop .i) (omega arith), lt-ltb (getD s (l .loop .i) 0) (2 ^ 32) (c .if2 .left)),
+      rw (l .loop .inv .1, below-at (2 ^ 32) s (l .loop .i) (omega arith), lt-ltb (getD s (l .loop .i) 0) (2 ^ 32) (omega arith)),
       l .loop .inv .2,
       l .loop .inv .3,
     )
@@ -56,6 +56,7 @@ words-below-spec =
     μ-loop
     (λ c. rw (c .if1 .taken) (sym (all-below (2 ^ 64) (c .before .args .chain) (λ i. fits c i .fits))))
     (λ c. (zero-le, refl, search needs, word-32 (c .before .args .w) (c .before .pre) (c .if1 .left)))
+    (λ c. omega arith)
     (λ c. omega arith)
     (λ c. omega arith)
     returns-2

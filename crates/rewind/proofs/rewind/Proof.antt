@@ -4,18 +4,14 @@ use mathlib.Core.Bool.{true, false}
 use lib.ListN.{length}
 use borrow.Author.Needs.{needs}
 use borrow.Author.Tests.{not-true, not-false}
-use Rattle.lsh.specs.WordSize.{isWordSize, sizeOf, blockBytes}
+use Rattle.lsh.specs.WordSize.{sizeOf, blockBytes}
 use Rattle.record.specs.Record.{sound}
-use Rattle.record.proofs.Sound.{sounds}
 use Rattle.rewind.specs.Rewind.{startsOffBlock, rewindCall}
 use Rattle.rewind.proofs.rewind.Statement.{statement}
 use Rattle.rewind.proofs.rewind.Tie as tie
 
 sound-is : (c : tie.Else1) → sound (c .before .before .before .args .r) ≡ true
 sound-is c = sym (c .before .is-sound .ensures) ∙ not-false _ (c .if1 .left)
-
-word : (c : tie.Else1) → isWordSize (c .before .before .before .args .r .w) ≡ true
-word c = sounds _ (sound-is c) .word
 
 on-block : (c : tie.Else2) → startsOffBlock (blockBytes (sizeOf (c .before .before .before .before .before .args .r .w))) (c .before .before .before .before .before .args .r .total) (length (c .before .before .before .before .before .args .h .now)) ≡ false
 on-block c = sym (c .before .starts-off-block .ensures) ∙ c .if2 .left
@@ -28,10 +24,10 @@ rewind-spec =
     (λ c κs. search needs)
     (λ c κs. search needs)
     (λ c. c .refused .ensures ∙ rw (sym (c .before .before .is-sound .ensures) ∙ not-true _ (c .before .if1 .taken)))
-    (λ c κs. word c)
+    (λ c κs. search needs)
     (λ c κs. search needs)
     (λ c. c .refused2 .ensures ∙ rw (sound-is (c .before .before .before), sym (c .before .before .starts-off-block .ensures) ∙ c .before .if2 .taken))
-    (λ c κs. word (c .before .before))
+    (λ c κs. search needs)
     (λ c κs. search needs)
     (λ c. c .refused3 .ensures ∙ rw (sound-is (c .before .before .before .before .before), on-block (c .before .before .before), sym (c .before .before .keeps-too-much .ensures) ∙ c .before .if3 .taken))
     (λ c κs. (sound-is (c .before .before .before .before), on-block (c .before .before), sym (c .before .keeps-too-much .ensures) ∙ c .if3 .left))

@@ -11,8 +11,8 @@ use borrow.Author.Needs.{needs}
 use Rattle.lsh.specs.WordSize.{sizeOf, blockBytes}
 use Rattle.lsh.specs.Block.{Chain}
 use Rattle.lsh.specs.Opening.{opening}
-use Rattle.lsh.proofs.Figures.{block-most}
 use Rattle.runs.specs.Limits.{limit}
+use Rattle.runs.proofs.Limits.{block-most}
 use Rattle.equal.specs.Equal.{equal}
 use Rattle.record.specs.declared.Record.{Record}
 use Rattle.record.proofs.Sound.{Sound, sounds, chain-is}
@@ -78,7 +78,7 @@ rewind-bytes-spec =
     c .refused2 .ensures
     ∙ rw (z .pre .0, z .pre .1, z .pre .2, held-same (c .before .before .before .before .before), sym (test-is (c .before .before)) ∙ c .before .if2 .taken))
     (λ c. sym (kept (c .before .before .before .before .before .before .before .before .before)))
-    (λ c κs. let z = c .before .before .before .before .before .before .before .before .before in omega (arith, kept z, few z .1, block-most _ (is-sound z .word)))
+    (λ c κs. let z = c .before .before .before .before .before .before .before .before .before in omega (arith, kept z, few z .1, block-most (R z .w)))
     (λ c. let z = c .before .before .before .before .before .before .before .before .before .before in record { fits = omega (arith, few z .0, on z .fits, is-sound z .few) })
     (λ c.
     let z = c .before .before .before .before .before .before .before .before .before .before in

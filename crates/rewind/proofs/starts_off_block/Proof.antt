@@ -1,8 +1,7 @@
 -- `rewind::starts_off_block` meets its contract. Assumes nothing.
-use native.Mathlib.Omega.{arith}
+use borrow.Author.Needs.{needs}
 use borrow.Author.Tests.{lt-ltb, le-ltb}
-use Rattle.lsh.proofs.Figures.{block-is}
-use Rattle.runs.proofs.Sizes.{bytes-some, bytes-most}
+use Rattle.lsh.proofs.Figures.{block-some}
 use Rattle.rewind.specs.Rewind.{startsOffBlock}
 use Rattle.rewind.proofs.starts_off_block.Statement.{statement}
 use Rattle.rewind.proofs.starts_off_block.Tie as tie
@@ -13,6 +12,6 @@ starts-off-block-spec =
     tie.close
     (tie.spec
     (λ c. rw (lt-ltb (c .before .args .total) (c .before .args .size) (c .if1 .taken)))
-    (λ c. record { fits = omega (arith, bytes-most _ (c .before .pre)) })
-    (λ c. bytes-some _ (c .before .pre))
-    (λ c. rw (le-ltb (c .before .args .total) (c .before .args .size) (c .if1 .left), block-is (c .before .args .w) (c .before .pre))))
+    (λ c κs. search needs)
+    (λ c. rw (c .block-bytes .ensures) (block-some _))
+    (λ c. rw (le-ltb (c .before .before .args .total) (c .before .before .args .size) (c .before .if1 .left), c .block-bytes .ensures)))

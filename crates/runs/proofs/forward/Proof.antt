@@ -7,7 +7,7 @@ use Rattle.lsh.specs.Tabulate.{at}
 use Rattle.lsh.specs.WordSize.{WordSize, lsh256}
 use Rattle.lsh.specs.Block.{forwards}
 use Rattle.lsh.proofs.Figures.{size-32, size-64}
-use Rattle.runs.proofs.Sizes.{run-by, run-none, bytes-most}
+use Rattle.runs.proofs.Sizes.{run-by, run-none}
 use Rattle.runs.proofs.forward.Statement.{statement}
 use Rattle.runs.proofs.forward.Tie as tie
 
@@ -16,11 +16,11 @@ unfolding lsh256 forwards
 forward-spec =
     tie.close
     (tie.spec
-    (λ c. record { fits = omega (arith, bytes-most _ (c .before .pre .0)) })
-    (λ c. run-none forwards _ (c .before .before .args .s .now) _ refl (c .before .before .pre .0) (c .if1 .taken))
-    (λ c κs l. subst (λ (z : WordSize). at (c .before .before .before .args .t) l < 2 ^ z .bits) (size-32 (c .if2 .taken)) (c .before .before .before .pre .1 .below l))
+    (λ c κs. search needs)
+    (λ c. run-none forwards _ (c .before .before .before .args .s .now) _ refl (omega arith))
+    (λ c κs l. subst (λ (z : WordSize). at (c .before .before .before .before .args .t) l < 2 ^ z .bits) (size-32 (c .if2 .taken)) (c .before .before .before .before .pre .1 .below l))
     (λ c κs. search needs)
     (λ c κs. search needs)
     (λ c. run-by forwards _ _ (size-32 (c .before .before .before .before .if2 .taken)) (c .before .before .before .narrow .ensures) (c .widen .ensures ∙ c .before .before .forward .ensures .0, c .before .before .forward .ensures .1))
     (λ c κs. search needs)
-    (λ c. run-by forwards _ _ (size-64 _ (c .before .before .before .before .before .pre .0) (c .before .before .if2 .left)) refl (c .before .forward2 .ensures)))
+    (λ c. run-by forwards _ _ (size-64 _ (c .before .before .before .before .before .before .pre .0) (c .before .before .if2 .left)) refl (c .before .forward2 .ensures)))

@@ -1,8 +1,9 @@
 -- `runs::is_digest_length` meets its contract. Assumes nothing.
-use native.Mathlib.Omega.{arith}
+use mathlib.Core.Path.{ap, _∙_}
+use borrow.Author.Needs.{needs}
 use borrow.Author.Tests.{ne-eqb}
-use Rattle.runs.proofs.Sizes.{bytes-most}
-use Rattle.runs.specs.Limits.{isDigestLength}
+use Rattle.lsh.proofs.Figures.{bits-are}
+use Rattle.runs.specs.Limits.{longestDigest, isDigestLength}
 use Rattle.runs.proofs.is_digest_length.Statement.{statement}
 use Rattle.runs.proofs.is_digest_length.Tie as tie
 
@@ -12,5 +13,5 @@ is-digest-length-spec =
     tie.close
     (tie.spec
     (λ c. rw (c .if1 .taken))
-    (λ c. record { fits = omega (arith, bytes-most _ (c .before .pre)) })
-    (λ c. rw (ne-eqb _ 0 (c .if1 .left))))
+    (λ c κs. search needs)
+    (λ c. rw (ne-eqb _ 0 (c .before .if1 .left), c .longest-digest .ensures ∙ ap longestDigest (bits-are _ (c .before .before .pre)))))

@@ -10,10 +10,9 @@ use borrow.Author.Needs.{needs}
 use borrow.Author.Tests.{not-true, not-false, eq-eqb, ne-eqb}
 use Rattle.lsh.specs.Tabulate.{at}
 use Rattle.lsh.specs.WordSize.{isWordSize}
-use Rattle.runs.specs.Limits.{isDigestLength}
-use Rattle.runs.proofs.Sizes.{bytes-most}
-use Rattle.runs.proofs.Limits.{digest-most}
-use Rattle.finalization.specs.Receipt.{receiptBytes}
+use Rattle.runs.specs.Limits.{longestDigest, isDigestLength}
+use Rattle.runs.proofs.Limits.{digest-longest}
+use Rattle.finalization.specs.Receipt.{receiptBytes, digestPlace}
 use Rattle.record.specs.Record.{allZero}
 use Rattle.till.specs.WellFormed.{lengthOf, unusedZero, wellFormed}
 use Rattle.till.proofs.is_well_formed.Statement.{statement}
@@ -21,10 +20,10 @@ use Rattle.till.proofs.is_well_formed.Tie as tie
 
 -- the definition, by the n that the code has read
 by-length : (r : List ℕ) {n : ℕ} → n ≡ lengthOf r
-    → (isWordSize (at r 0) && eqb (at r 1) 0 && isDigestLength (at r 0) n && unusedZero r n && allZero (drop (4 + (n + 7) / 8) r)) ≡ wellFormed r
+    → (isWordSize (at r 0) && eqb (at r 1) 0 && isDigestLength (at r 0) n && unusedZero r n && allZero (drop (digestPlace + (n + 7) / 8) r)) ≡ wellFormed r
 unfolding wellFormed
 by-length r e =
-    ap (λ (n : ℕ). isWordSize (at r 0) && eqb (at r 1) 0 && isDigestLength (at r 0) n && unusedZero r n && allZero (drop (4 + (n + 7) / 8) r)) e
+    ap (λ (n : ℕ). isWordSize (at r 0) && eqb (at r 1) 0 && isDigestLength (at r 0) n && unusedZero r n && allZero (drop (digestPlace + (n + 7) / 8) r)) e
 
 -- what each test that was passed says
 word-passed : (c : tie.Else1) → isWordSize (at (c .before .before .before .before .args .r .now) 0) ≡ true
@@ -33,11 +32,8 @@ word-passed c = sym (c .before .is-word-size .ensures) ∙ not-false _ (c .if1 .
 digest-passed : (c : tie.Else3) → isDigestLength (at (c .before .before .before .before .before .before .before .before .before .args .r .now) 0) (c .before .before .length-of .result) ≡ true
 digest-passed c = sym (c .before .is-digest-length .ensures) ∙ not-false _ (c .if3 .left)
 
--- n is at most 512
-few : (c : tie.Else3) → c .before .before .length-of .result ≤ 512
-few c =
-    let w = word-passed (c .before .before .before .before .before) in
-    omega (arith, bytes-most _ w, digest-most _ _ (digest-passed c))
+few : (c : tie.Else3) → c .before .before .length-of .result ≤ longestDigest 64
+few c = digest-longest _ _ (word-passed (c .before .before .before .before .before)) (digest-passed c)
 
 pub is-well-formed-spec : {M : Type 1} → statement M
 unfolding receiptBytes wellFormed

@@ -1,15 +1,15 @@
 -- `till::sum_of` meets its contract. Assumes nothing.
 use mathlib.Core.Path.{_≡_, refl, sym, _∙_}
-use Prim.Native.Nat.{_-_, _^_, _<_}
+use Prim.Native.Nat.{_-_, _<_}
 use native.Mathlib.Omega.{arith}
 use lib.ListN.{length, drop, drop-of-length-le}
-use Rattle.till.specs.Checksum.{checksum, checksumAfter}
+use Rattle.till.specs.Checksum.{checksumBound, checksum, checksumAfter}
 use Rattle.till.proofs.Sums.{checksum-at}
 use Rattle.till.proofs.sum_of.Statement.{statement}
 use Rattle.till.proofs.sum_of.Tie as tie
 
 abbrev Inv-loop : tie.InvT-loop
-Inv-loop r c₀ i₀ c i = (c < 2 ^ 55) × (checksum r ≡ checksumAfter c (drop i r))
+Inv-loop r c₀ i₀ c i = (c < checksumBound) × (checksum r ≡ checksumAfter c (drop i r))
 
 abbrev μ-loop : tie.MeasureT-loop
 μ-loop r c₀ i₀ c i = length r - i
