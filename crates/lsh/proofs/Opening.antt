@@ -1,4 +1,4 @@
--- The opening chain as a run over a block of zero bytes.
+-- The opening chain is a chain, and a run over a block of zero bytes.
 -- Assumes nothing.
 use mathlib.Core.Path.{_≡_, refl, sym, ap, ap₂, _∙_}
 use mathlib.Core.Bool.{true}
@@ -12,7 +12,8 @@ use Rattle.lsh.specs.Bytes.{wordAt, wordsOf}
 use Rattle.lsh.specs.Block.{Chain, forward, forwards}
 use Rattle.lsh.specs.Opening.{opening}
 use Rattle.lsh.specs.Padding.{blocksOf}
-use Rattle.lsh.proofs.Figures.{by-size, bits-are, block-some}
+use Rattle.lsh.proofs.Figures.{amounts, by-size, bits-are, block-some}
+use Rattle.lsh.proofs.Block.{forward-chain}
 use Rattle.lsh.proofs.Tabulate.{tabulate-ext}
 use Rattle.lsh.proofs.Padding.{one-block}
 
@@ -47,6 +48,10 @@ first-chain w n e h =
     (λ le. record { words = refl; below = below-first (2 ^ 32) 32 n (omega arith) (omega arith) })
     (λ le. record { words = refl; below = below-first (2 ^ 64) 64 n (omega arith) (omega arith) })
     w e h
+
+pub opening-chain : (w n : ℕ) → Chain (sizeOf w) (opening (sizeOf w) n)
+unfolding opening
+opening-chain w n = forward-chain (sizeOf w) (amounts w) _ _
 
 pub opening-run : (w n : ℕ) (s : List ℕ) → isWordSize w ≡ true → s ≡ replicate (blockBytes (sizeOf w)) 0
     → forwards (sizeOf w) (blocksOf (sizeOf w) s) (firstChain w n) ≡ opening (sizeOf w) n

@@ -13,8 +13,8 @@ use Rattle.lsh.specs.Block.{Chain, forwards}
 use Rattle.lsh.specs.Opening.{opening}
 use Rattle.lsh.specs.Padding.{blocksOf, restOf}
 use Rattle.lsh.proofs.Figures.{amounts, bits-are, block-some}
-use Rattle.lsh.proofs.Block.{forward-chain}
 use Rattle.lsh.proofs.Blocks.{forwards-chain}
+use Rattle.lsh.proofs.Opening.{opening-chain}
 use Rattle.lsh.proofs.Padding.{length-rest}
 use Rattle.runs.specs.Limits.{longestBlock, isDigestLength, limit}
 use Rattle.record.specs.Record.{heldOf, allBelow, allZero, sound, heldBytes, recordOf}
@@ -23,10 +23,6 @@ use Rattle.record.proofs.Lists.{all-below}
 pub all-zero : (k : ℕ) → allZero (replicate k 0) ≡ true
 all-zero zero = refl
 all-zero (suc k) = all-zero k
-
-pub opening-chain : (w n : ℕ) → Chain (sizeOf w) (opening (sizeOf w) n)
-unfolding opening
-opening-chain w n = forward-chain (sizeOf w) (amounts w) _ _
 
 module _ (w n : ℕ) (m : List ℕ) (word : isWordSize w ≡ true) where
   abbrev Z : WordSize

@@ -10,14 +10,9 @@ use lib.Seq.{getD-append-add}
 use Rattle.lsh.specs.Tabulate.{at, tabulate}
 use Rattle.lsh.specs.WordSize.{sizeOf}
 use Rattle.lsh.specs.Opening.{opening}
-use Rattle.lsh.proofs.Figures.{amounts}
-use Rattle.lsh.proofs.Block.{forward-chain}
+use Rattle.lsh.proofs.Opening.{opening-chain}
 use Rattle.lsh.proofs.Tabulate.{tabulate-ext}
 use Rattle.runs.specs.Published.{publishedSizes, publishedLengths, openings}
-
-length-opening : (w n : ℕ) → length (opening (sizeOf w) n) ≡ 16
-unfolding opening
-length-opening w n = forward-chain (sizeOf w) (amounts w) _ _ .words
 
 at-openings : (ws ns : List ℕ) (k l : ℕ) → k < length ws → k < length ns → l < 16
     → at (openings ws ns) (16 * k + l) ≡ at (opening (sizeOf (at ws k)) (at ns k)) l
@@ -27,9 +22,9 @@ at-openings (w ∷ ws) [] k l hw hn hl = absurd (not-suc-le-zero hn)
 at-openings (w ∷ ws) (n ∷ ns) zero l hw hn hl =
     let front : 16 * 0 + l ≡ l = omega arith in
     ap (at (openings (w ∷ ws) (n ∷ ns))) front
-    ∙ List·getD-append (opening (sizeOf w) n) (openings ws ns) 0 l (rw (length-opening w n) hl)
+    ∙ List·getD-append (opening (sizeOf w) n) (openings ws ns) 0 l (rw (opening-chain w n .words) hl)
 at-openings (w ∷ ws) (n ∷ ns) (suc k) l hw hn hl =
-    let after : 16 * suc k + l ≡ length (opening (sizeOf w) n) + (16 * k + l) = rw (length-opening w n) (omega arith) in
+    let after : 16 * suc k + l ≡ length (opening (sizeOf w) n) + (16 * k + l) = rw (opening-chain w n .words) (omega arith) in
     ap (at (openings (w ∷ ws) (n ∷ ns))) after
     ∙ getD-append-add (opening (sizeOf w) n) (openings ws ns) (16 * k + l) 0
     ∙ at-openings ws ns k l (le-of-suc-le-suc hw) (le-of-suc-le-suc hn) hl
@@ -38,5 +33,5 @@ pub published : (k : ℕ) {t : List ℕ} → k < 6 → t ≡ openings publishedS
     → tabulate 16 (λ l. at t (16 * k + l)) ≡ opening (sizeOf (at publishedSizes k)) (at publishedLengths k)
 unfolding publishedSizes publishedLengths
 published k h is =
-    tabulate-ext 16 _ _ (length-opening (at publishedSizes k) (at publishedLengths k))
+    tabulate-ext 16 _ _ (opening-chain (at publishedSizes k) (at publishedLengths k) .words)
     (λ l hl. ap (λ (s : List ℕ). at s (16 * k + l)) is ∙ at-openings publishedSizes publishedLengths k l h h hl)

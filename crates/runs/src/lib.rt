@@ -39,7 +39,7 @@ pub fn is_digest_length(w: u64, n: u64) -> bool
     n <= longest_digest(w)
 }
 
-// Bytes of a block.
+// Bytes of a block, by w.
 pub fn block_bytes(w: u64) -> usize
     ensures { λ r. ⌜ r ≡ blockBytes (sizeOf w) ⌝ }
 {

@@ -17,13 +17,14 @@ use Rattle.lsh.specs.Padding.{blocksOf, restOf}
 use Rattle.lsh.proofs.Figures.{amounts, block-some}
 use Rattle.lsh.proofs.Bytes.{Bytes, bytes-append, bytes-take}
 use Rattle.lsh.proofs.Blocks.{forwards-chain, backwards-forwards, forwards-append}
+use Rattle.lsh.proofs.Opening.{opening-chain}
 use Rattle.lsh.proofs.Padding.{blocks-short}
 use Rattle.runs.specs.Limits.{isDigestLength, limit}
 use Rattle.equal.proofs.Equal.{equal-self}
 use Rattle.record.specs.Record.{sound, heldOf, recordOf}
 use Rattle.record.specs.Calls.{refused, appendAccepted, appendCall}
 use Rattle.record.proofs.Joins.{append-record}
-use Rattle.record.proofs.Strings.{opening-chain, held-record, record-sound}
+use Rattle.record.proofs.Strings.{held-record, record-sound}
 use Rattle.rewind.specs.Rewind.{startsOffBlock, keepsTooMuch, heldDiffers, reached, openingDiffers, rewound, rewindCall}
 use Rattle.rewind.proofs.Lengths.{OnBlock, on-block, keeps-few, total-is, same-fill}
 use Rattle.tape.specs.Sequence.{Given}

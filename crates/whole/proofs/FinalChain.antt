@@ -9,18 +9,14 @@ use Rattle.lsh.specs.Block.{Chain, forwards}
 use Rattle.lsh.specs.Opening.{opening}
 use Rattle.lsh.specs.Padding.{blocksOf, restOf}
 use Rattle.lsh.proofs.Figures.{amounts, block-some}
-use Rattle.lsh.proofs.Block.{forward-chain}
 use Rattle.lsh.proofs.Blocks.{forwards-chain, forwards-append}
+use Rattle.lsh.proofs.Opening.{opening-chain}
 use Rattle.lsh.proofs.Padding.{blocks-append}
 use Rattle.runs.proofs.Rest.{rest, rest-is, rest-length}
 
 module _ (w n : ℕ) where
-  opening-is : Chain (sizeOf w) (opening (sizeOf w) n)
-  unfolding opening
-  opening-is = forward-chain (sizeOf w) (amounts w) _ _
-
-  pub opening-chain : {t : List ℕ} → t ≡ opening (sizeOf w) n → Chain (sizeOf w) t
-  opening-chain e = subst (Chain (sizeOf w)) (sym e) opening-is
+  pub opened-chain : {t : List ℕ} → t ≡ opening (sizeOf w) n → Chain (sizeOf w) t
+  opened-chain e = subst (Chain (sizeOf w)) (sym e) (opening-chain w n)
 
   pub run-chain : (bs : List (List ℕ)) {t c : List ℕ} → Chain (sizeOf w) t → c ≡ forwards (sizeOf w) bs t → Chain (sizeOf w) c
   run-chain bs {t} h e = subst (Chain (sizeOf w)) (sym e) (forwards-chain (sizeOf w) (amounts w) bs t h)

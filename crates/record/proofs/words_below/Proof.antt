@@ -31,7 +31,7 @@ returns-2 : tie.Need-returns-2 Inv-loop μ-loop
 returns-2 c =
     let l = c .before .before in
     let s = l .before .before .args .chain in
-    rw (l .loop .inv .3, l .loop .inv .1, below-at (2 ^ 32) s (l .loop .i) (omega arith), le-ltb (getD s (l .loop .i) 0) (2 ^ 32) (c .if2 .taken))
+    rw (l .loop .inv .3, l .loop .inv .1, below-at (2 ^ 32) s (l .loop .i) (omega arith), le-ltb (getD s (l .loop .i) 0) (2 ^ 32) (omega arith))
 
 loop-again : tie.Need-loop-again Inv-loop μ-loop
 loop-again c =
