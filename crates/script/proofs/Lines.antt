@@ -1,4 +1,4 @@
--- A line passed byte by byte: its first mark, its spaces, and its words.
+-- A line passed byte by byte: its first mark, and its words.
 -- Assumes nothing.
 use mathlib.Core.Path.{_≡_, refl, sym, ap, _∙_}
 use mathlib.Core.Bool.{Bool, true, false, cond}
@@ -11,7 +11,7 @@ use lib.Dec.{eqb}
 use lib.ListN.{length, take, drop, getD, drop-of-length-le}
 use lib.Seq.{drop-cons}
 use borrow.Author.Tests.{eq-eqb, ne-eqb}
-use Rattle.script.specs.Words.{before, spaces, afterSpaces}
+use Rattle.script.specs.Words.{before, afterSpaces}
 
 -- the bytes before the mark
 
@@ -35,18 +35,6 @@ take-before m (x ∷ s) = go (take-before m s) (eqb x m)
     go : take (length (before m s)) s ≡ before m s → (b : Bool) → take (length (cond b [] (x ∷ before m s))) (x ∷ s) ≡ cond b [] (x ∷ before m s)
     go e true = refl
     go e false = ap (λ (t : List ℕ). x ∷ t) e
-
--- the spaces
-
-module _ (s : List ℕ) (i n : ℕ) (passed : spaces s ≡ n + spaces (drop i s)) where
-  pub spaces-one : i < length s → getD s i 0 ≡ 32 → spaces s ≡ n + 1 + spaces (drop (i + 1) s)
-  spaces-one lt e = passed ∙ rw (add-one i, drop-cons s i 0 lt, eq-eqb (getD s i 0) 32 e) (omega arith)
-
-  pub spaces-no : i < length s → (getD s i 0 ≡ 32 → ⊥) → spaces s ≡ n + spaces (drop (i + 1) s)
-  spaces-no lt ne = passed ∙ rw (add-one i, drop-cons s i 0 lt, ne-eqb (getD s i 0) 32 ne)
-
-  pub spaces-all : length s ≤ i → n ≡ spaces s
-  spaces-all le = sym (passed ∙ rw (drop-of-length-le s {i = i} le) (add-zero n))
 
 -- the bytes after the first k spaces, of which n are still to come
 

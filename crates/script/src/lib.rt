@@ -35,21 +35,6 @@ pub fn until(s: &[u8], mark: u8) -> usize
     i
 }
 
-// How many spaces a line has.
-pub fn count_spaces(line: &[u8]) -> usize
-    ensures { λ r. ⌜ r ≡ spaces (now (line .entry)) ⌝ }
-{
-    let mut count: usize = 0;
-    let mut i: usize = 0;
-    while i < line.len() {
-        if line[i] == b' ' {
-            count += 1;
-        }
-        i += 1;
-    }
-    count
-}
-
 // Word i of a line, counted from 0; an empty one where the line has fewer.
 pub fn word(line: &[u8], i: usize) -> &[u8]
     ensures { λ r. ⌜ now r ≡ wordAt i (now (line .entry)) ⌝ }
@@ -83,12 +68,14 @@ fn after_spaces(line: &[u8], k: usize) -> usize
 pub fn place(names: &[u8], name: &[u8]) -> usize
     ensures { λ r. ⌜ r ≡ placeOf (now (names .entry)) (now (name .entry)) ⌝ }
 {
-    let end = count_spaces(names) + 1;
     let mut i: usize = 0;
-    while i < end {
-        if equal::equal_bytes(word(names, i), name) {
+    let mut from: usize = 0;
+    while from <= names.len() {
+        let to = from + until(&names[from..], b' ');
+        if equal::equal_bytes(&names[from..to], name) {
             return i;
         }
+        from = to + 1;
         i += 1;
     }
     i

@@ -1,16 +1,17 @@
--- `script::place` meets its contract: before turn i the words passed are others. Assumes nothing.
-use Prim.Native.Nat.{_-_}
+-- `script::place` meets its contract: before each turn the words passed are others. Assumes nothing.
+use Prim.Native.Nat.{_+_, _-_, _≤_, zero-le}
 use native.Mathlib.Omega.{arith}
 use borrow.Author.Needs.{needs}
-use Rattle.script.proofs.Places.{spaces-le, Sought, sought-none, found-here, sought-more, sought-all}
+use lib.ListN.{length}
+use Rattle.script.proofs.Places.{Sought, sought-none, found-here, sought-more, sought-all}
 use Rattle.script.proofs.place.Statement.{statement}
 use Rattle.script.proofs.place.Tie as tie
 
 abbrev Inv-loop : tie.InvT-loop
-Inv-loop names name end i₀ i = Sought names name i
+Inv-loop names name i₀ from₀ i from = (i ≤ from) × Sought names name i from
 
 abbrev μ-loop : tie.MeasureT-loop
-μ-loop names name end i₀ i = end - i
+μ-loop names name i₀ from₀ i from = length names + 1 - from
 
 pub place-spec : {M : Type 1} → statement M
 place-spec =
@@ -18,17 +19,25 @@ place-spec =
     (tie.spec
     Inv-loop
     μ-loop
-    (λ c κs. search needs)
-    (λ c. omega (arith, spaces-le (c .before .before .before .args .names .now)))
-    (λ c. sought-none _ _)
-    (λ c κs. search needs)
-    (λ c κs. search needs)
+    (λ c. (zero-le, sought-none _ _))
+    (λ c. omega arith)
+    (λ c. omega arith)
+    (λ c. search needs)
+    (λ c κs. tt)
+    (λ c. omega (arith, c .until .ensures .1))
+    (λ c. omega arith)
+    (λ c. omega arith)
+    (λ c. omega (arith, c .until .ensures .1))
+    (λ c κs. tt)
     (λ c.
-    let l = c .before .before .before .before in
-    found-here _ _ (l .loop .i) (l .loop .inv) (omega arith) (c .before .before .word .ensures) (c .before .equal-bytes .ensures) (c .if1 .taken))
-    (λ c. omega (arith, spaces-le (c .before .before .before .before .before .before .before .before .args .names .now)))
+    let l = c .before .before .before .before .before .before .loop in
+    found-here _ _ (l .i) (l .from) _ (l .inv .1) (omega arith) (c .before .before .before .until .ensures .0) (c .before .equal-bytes .ensures) (c .if1 .taken))
+    (λ c. omega (arith, c .before .before .before .until .ensures .1))
+    (λ c. omega arith)
     (λ c. omega arith)
     (λ c.
-    let l = c .before .before .before .before in
-    sought-more _ _ (l .loop .i) (l .loop .inv) (omega arith) (c .before .before .word .ensures) (c .before .equal-bytes .ensures) (c .if1 .left))
-    (λ c. sought-all _ _ (c .before .loop .i) (c .before .loop .inv) (omega arith)))
+    let l = c .before .before .before .before .before .before .loop in (
+      omega (arith, l .inv .0),
+      sought-more _ _ (l .i) (l .from) _ (l .inv .1) (omega arith) (c .before .before .before .until .ensures .0) (c .before .equal-bytes .ensures) (c .if1 .left),
+    ))
+    (λ c. sought-all _ _ (c .before .loop .i) (c .before .loop .from) (c .before .loop .inv .1) (omega arith)))
