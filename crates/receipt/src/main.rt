@@ -1,7 +1,9 @@
 // Prints a receipt of each file that it is given, one to a line with the file's name, as sha256sum prints a digest.
 ghost use mathlib.Core.Path.{_≡_};
-ghost use Prim.Native.Nat.{_+_, _*_, _<_, _≤_};
+ghost use Prim.Native.Nat.{_+_, _*_, _≤_};
 ghost use lib.ListN.{length};
+ghost use Rattle.finalization.specs.Receipt.{receiptBytes};
+ghost use Rattle.receipt.specs.Sizes.{digestPlace, listBytes, nameBytes, lineBytes};
 use finalization::RECEIPT;
 use libc::STDERR_FILENO;
 use libc::STDIN_FILENO;
@@ -10,6 +12,15 @@ use record::Record;
 
 // The bytes of the most receipts that a tally takes.
 const LIST: usize = till::MOST_RECEIPTS * RECEIPT;
+
+// The longest name of a file, for which io::buffer has room.
+const NAME: usize = 4096;
+
+// Room for the longest line that is printed (lineBytes in specs/Sizes.antt).
+const LINE: usize = 1 + (2 * RECEIPT + 1) + 2 + 2 * NAME + 1;
+
+// The place of the digest in a receipt.
+const DIGEST: usize = 4;
 
 // What the options ask for, and the first argument after them.
 struct Asked {
@@ -33,38 +44,46 @@ struct Reading {
     record: Record,
 }
 
+// The receipt of a file, if it could be made and printed.
+struct Made {
+    good: bool,
+    receipt: [u8; RECEIPT],
+}
+
 fn main() {
-    let mut text = io::buffer();
-    let a = options(&mut text);
+    let a = options();
     if a.ended {
         return;
     }
     let n = digest_length(a.w, a.n);
     let o = record::open(a.w, n);
     if o.number != 0 {
-        io::write_all(STDERR_FILENO, b"receipt: -n ");
-        io::print_decimal(STDERR_FILENO, n);
-        io::write_all(
-            STDERR_FILENO,
+        number_wrong(
+            b"-n",
+            n,
             b": a digest has 1 bit at least and 8 times the word size at most\n",
         );
         return;
     }
+    receipts(a, o.next);
+}
+
+// Prints the receipts, and their tally if it is asked for.
+fn receipts(a: Asked, opened: Record) {
     if os::arg_count() <= a.first {
-        say(b"no file is named");
+        io::write_all(STDERR_FILENO, b"receipt: no file is named\n");
         usage(STDERR_FILENO);
         return;
     }
-    let mut line = io::large_buffer();
     let mut list = list_buffer();
-    let count = files(a, o.next, &mut text, &mut line, &mut list);
+    let count = files(a, opened, &mut list);
     if a.tally {
         tally(&list, count);
     }
 }
 
 fn list_buffer() -> [u8; LIST]
-    ensures { λ r. ⌜ 65280 ≡ length r ⌝ }
+    ensures { λ r. ⌜ listBytes ≡ length r ⌝ }
 {
     [0; LIST]
 }
@@ -81,7 +100,7 @@ fn digest_length(w: u64, n: u64) -> u64 {
 }
 
 // Reads the options. An argument that does not begin with a dash, or is a dash alone, ends them, and so does --.
-fn options(text: &mut [u8]) -> Asked {
+fn options() -> Asked {
     let mut a = Asked {
         w: 32,
         n: 0,
@@ -93,53 +112,24 @@ fn options(text: &mut [u8]) -> Asked {
     };
     let mut turns = u64::MAX;
     while turns > 0 && a.more {
-        a = option(a, text);
+        a = option(a);
         turns -= 1;
     }
     a
 }
 
-// Reads the argument after those read before, if it is an option.
-fn option(a: Asked, text: &mut [u8]) -> Asked {
-    let count = os::arg_count();
-    if count <= a.first {
-        return end_options(a, a.first);
-    }
-    let n = os::arg(a.first, text);
-    let next = a.first + 1;
+// Reads the argument after those read before, if there is one and it is an option.
+fn option(a: Asked) -> Asked {
+    let mut text = io::buffer();
+    let n = os::arg(a.first, &mut text);
     if os::errno() != 0 {
         return end_options(a, a.first);
     }
-    if !is_option(&text[..n]) {
+    let name = &text[..n];
+    if !is_option(name) {
         return end_options(a, a.first);
     }
-    named(a, &text[..n], next)
-}
-
-// The option of a name, after which the argument next comes.
-fn named(a: Asked, name: &[u8], next: usize) -> Asked {
-    if equal::equal_bytes(name, b"--") {
-        return end_options(a, next);
-    }
-    if equal::equal_bytes(name, b"--digest") {
-        return with_flags(a, next, true, a.tally);
-    }
-    if equal::equal_bytes(name, b"--tally") {
-        return with_flags(a, next, a.digest, true);
-    }
-    if equal::equal_bytes(name, b"-w") {
-        return word_size(a, next);
-    }
-    if equal::equal_bytes(name, b"-n") {
-        return bits(a, next);
-    }
-    if is_help(name) {
-        help();
-        return without_files(a);
-    }
-    name_wrong(name, b"there is no such option");
-    usage(STDERR_FILENO);
-    without_files(a)
+    named(a, name, std::num::wrapping_add_usize(a.first, 1))
 }
 
 // Whether an argument begins with a dash and is longer.
@@ -150,124 +140,121 @@ fn is_option(text: &[u8]) -> bool {
     text[0] == b'-'
 }
 
-// The value of -w.
-fn word_size(a: Asked, at: usize) -> Asked {
-    let value = number(b"-w", at);
-    if !value.is {
-        return without_files(a);
+// The option of a name, after which the argument next comes.
+fn named(a: Asked, name: &[u8], next: usize) -> Asked {
+    let option = script::place(b"-- --digest --tally -w -n -h --help", name);
+    match option {
+        0 => end_options(a, next),
+        1 => with_flags(a, next, true, a.tally),
+        2 => with_flags(a, next, a.digest, true),
+        3 => word_size(a, name, next),
+        4 => bits(a, name, next),
+        5 | 6 => help(a),
+        _ => no_option(a, name),
     }
-    if !runs::is_word_size(value.value) {
-        io::write_all(STDERR_FILENO, b"receipt: -w ");
-        io::print_decimal(STDERR_FILENO, value.value);
-        io::write_all(STDERR_FILENO, b": the word size is 32 or 64\n");
-        return without_files(a);
-    }
-    with_sizes(a, at, value.value, a.n)
 }
 
-// The value of -n. Whether it suits the word size is known after all options.
-fn bits(a: Asked, at: usize) -> Asked {
-    let value = number(b"-n", at);
-    if !value.is {
+// The option -w, whose value stands at a place.
+fn word_size(a: Asked, option: &[u8], at: usize) -> Asked {
+    let w = number(option, at);
+    if !w.is {
         return without_files(a);
     }
-    if value.value == 0 {
-        say(b"-n 0: a digest has 1 bit at least");
+    if !runs::is_word_size(w.value) {
+        number_wrong(option, w.value, b": the word size is 32 or 64\n");
         return without_files(a);
     }
-    with_sizes(a, at, a.w, value.value)
+    with_sizes(a, at, w.value, a.n)
 }
 
-// The argument after the option as a number; says what is wrong if it is none.
+// The option -n likewise. Whether its value suits the word size is known after all options.
+fn bits(a: Asked, option: &[u8], at: usize) -> Asked {
+    let n = number(option, at);
+    if !n.is {
+        return without_files(a);
+    }
+    if n.value == 0 {
+        io::write_all(
+            STDERR_FILENO,
+            b"receipt: -n 0: a digest has 1 bit at least\n",
+        );
+        return without_files(a);
+    }
+    with_sizes(a, at, a.w, n.value)
+}
+
+// The argument after an option as a number; says what is wrong if it is none. One that is missing is read as an empty one.
 fn number(option: &[u8], at: usize) -> script::Number {
     let mut text = io::buffer();
     let n = os::arg(at, &mut text);
-    if os::errno() != 0 {
-        name_wrong(option, b"a number is missing after it");
-        return script::Number {
-            is: false,
-            value: 0,
-        };
+    let missing = os::errno() != 0;
+    let value = &text[..n];
+    let number = script::read_number(value);
+    if !number.is {
+        not_a_number(option, missing, value);
     }
-    let value = script::read_number(&text[..n]);
-    if !value.is {
-        io::write_all(STDERR_FILENO, b"receipt: ");
-        io::write_all(STDERR_FILENO, option);
-        io::write_all(STDERR_FILENO, b" ");
-        io::write_all(STDERR_FILENO, &text[..n]);
-        io::write_all(STDERR_FILENO, b": this is no number, or is too large\n");
-    }
-    value
+    number
 }
 
-fn end_options(a: Asked, first: usize) -> Asked {
-    Asked {
-        w: a.w,
-        n: a.n,
-        digest: a.digest,
-        tally: a.tally,
-        first: first,
-        more: false,
-        ended: false,
+fn not_a_number(option: &[u8], missing: bool, value: &[u8]) {
+    if missing {
+        say(option, b": a number is missing after it\n");
+        return;
     }
+    value_wrong(option, value, b": this is no number, or is too large\n");
 }
 
-fn with_flags(a: Asked, first: usize, digest: bool, tally: bool) -> Asked {
-    Asked {
-        w: a.w,
-        n: a.n,
-        digest: digest,
-        tally: tally,
-        first: first,
-        more: true,
-        ended: false,
-    }
+fn end_options(mut a: Asked, first: usize) -> Asked {
+    a.first = first;
+    a.more = false;
+    a
+}
+
+fn with_flags(mut a: Asked, first: usize, digest: bool, tally: bool) -> Asked {
+    a.digest = digest;
+    a.tally = tally;
+    a.first = first;
+    a
 }
 
 // After an option and its value, which stands at a place.
-fn with_sizes(a: Asked, at: usize, w: u64, n: u64) -> Asked {
-    Asked {
-        w: w,
-        n: n,
-        digest: a.digest,
-        tally: a.tally,
-        first: std::num::wrapping_add_usize(at, 1),
-        more: true,
-        ended: false,
-    }
+fn with_sizes(mut a: Asked, at: usize, w: u64, n: u64) -> Asked {
+    a.w = w;
+    a.n = n;
+    a.first = std::num::wrapping_add_usize(at, 1);
+    a
 }
 
-fn without_files(a: Asked) -> Asked {
-    Asked {
-        w: a.w,
-        n: a.n,
-        digest: a.digest,
-        tally: a.tally,
-        first: a.first,
-        more: false,
-        ended: true,
-    }
+fn without_files(mut a: Asked) -> Asked {
+    a.more = false;
+    a.ended = true;
+    a
 }
 
-fn say(fault: &[u8]) {
-    io::write_all(STDERR_FILENO, b"receipt: ");
-    io::write_all(STDERR_FILENO, fault);
-    io::write_all(STDERR_FILENO, b"\n");
+fn no_option(a: Asked, name: &[u8]) -> Asked {
+    say(name, b": there is no such option\n");
+    usage(STDERR_FILENO);
+    without_files(a)
 }
 
-fn name_wrong(name: &[u8], fault: &[u8]) {
+// Says on standard error what is wrong with a name.
+fn say(name: &[u8], fault: &[u8]) {
     io::write_all(STDERR_FILENO, b"receipt: ");
     io::write_all(STDERR_FILENO, name);
-    io::write_all(STDERR_FILENO, b": ");
     io::write_all(STDERR_FILENO, fault);
-    io::write_all(STDERR_FILENO, b"\n");
 }
 
-fn is_help(name: &[u8]) -> bool {
-    if equal::equal_bytes(name, b"-h") {
-        return true;
-    }
-    equal::equal_bytes(name, b"--help")
+// Says what is wrong with the value of an option.
+fn value_wrong(option: &[u8], value: &[u8], fault: &[u8]) {
+    say(option, b" ");
+    io::write_all(STDERR_FILENO, value);
+    io::write_all(STDERR_FILENO, fault);
+}
+
+fn number_wrong(option: &[u8], value: u64, fault: &[u8]) {
+    let mut digits = [0u8; 20];
+    let n = io::decimal(value, &mut digits);
+    value_wrong(option, &digits[..n], fault);
 }
 
 fn usage(fd: i32) {
@@ -278,93 +265,113 @@ fn usage(fd: i32) {
 }
 
 // What the program does, on standard output. ./kiosk has the same text.
-fn help() {
+fn help(a: Asked) -> Asked {
     usage(STDOUT_FILENO);
     io::write_all(
         STDOUT_FILENO,
-        b"Prints a receipt of each file in hexadecimal, and the file's name; - is standard input.\n",
+        b"Prints a receipt of each file in hexadecimal, and the file's name; - is standard input.\n\
+          \x20 -w 32|64    the word size, 32 if it is not given\n\
+          \x20 -n BITS     the digest length, 1 to 8 times the word size, the longest if it is not given\n\
+          \x20 --digest    prints the digest alone\n\
+          \x20 --tally     adds a line: how many receipts are firsts, and how many reprints\n\
+          \x20 --          ends the options\n\
+          \x20 -h, --help  prints this\n",
     );
-    io::write_all(
-        STDOUT_FILENO,
-        b"  -w 32|64    the word size, 32 if it is not given\n",
-    );
-    io::write_all(
-        STDOUT_FILENO,
-        b"  -n BITS     the digest length, 1 to 8 times the word size, the longest if it is not given\n",
-    );
-    io::write_all(STDOUT_FILENO, b"  --digest    prints the digest alone\n");
-    io::write_all(
-        STDOUT_FILENO,
-        b"  --tally     adds a line: how many receipts are firsts, and how many reprints\n",
-    );
-    io::write_all(STDOUT_FILENO, b"  --          ends the options\n");
-    io::write_all(STDOUT_FILENO, b"  -h, --help  prints this\n");
+    without_files(a)
 }
 
 // Prints the receipts of the files, puts them into the list as long as it has room, and answers how many there are.
-fn files(a: Asked, opened: Record, text: &mut [u8], line: &mut [u8], list: &mut [u8]) -> usize
-    requires { ⌜ (4096 ≡ length (now text)) × (65536 ≡ length (now line)) × (65280 ≡ length (now list)) ⌝ }
+fn files(a: Asked, opened: Record, list: &mut [u8]) -> usize
+    requires { ⌜ listBytes ≡ length (now list) ⌝ }
 {
     let end = os::arg_count();
     let mut count: usize = 0;
     let mut i = a.first;
     while i < end {
-        if file(a.digest, opened, i, text, line, list, count) {
-            count = std::num::wrapping_add_usize(count, 1);
-        }
+        count = keep(list, count, file(a.digest, opened, i));
         i += 1;
     }
     count
 }
 
-// Prints the receipt of the file that argument i names, and answers whether there is one.
-fn file(
-    digest: bool,
-    opened: Record,
-    i: usize,
-    text: &mut [u8],
-    line: &mut [u8],
-    list: &mut [u8],
-    count: usize,
-) -> bool
-    requires { ⌜ (4096 ≡ length (now text)) × (65536 ≡ length (now line)) × (65280 ≡ length (now list)) ⌝ }
+// Puts a receipt into its place of the list, if there is one, and answers how many receipts there are then.
+fn keep(list: &mut [u8], count: usize, made: Made) -> usize
+    requires { ⌜ listBytes ≡ length (now list) ⌝ }
 {
-    let n = os::arg(i, text);
-    if os::errno() != 0 {
-        say(b"a file's name is too long");
-        return false;
+    if !made.good {
+        return count;
     }
-    let t = read_file(&text[..n], opened, line);
-    if !t.good {
-        return false;
+    let after = std::num::wrapping_add_usize(count, 1);
+    if till::MOST_RECEIPTS <= count {
+        return after;
     }
-    let mut receipt = [0u8; RECEIPT];
-    close::close(t.record, 0, 0, &mut receipt);
-    keep(list, count, receipt);
-    print_receipt(digest, opened.n, receipt, &text[..n], line)
+    let r = made.receipt;
+    text::put(list, RECEIPT * count, &r);
+    after
 }
 
-// The record of a file's bytes, which are read into chunk part by part. A dash names standard input.
-fn read_file(name: &[u8], opened: Record, chunk: &mut [u8]) -> Reading {
+// Prints the receipt of the file that argument i names.
+fn file(digest: bool, opened: Record, i: usize) -> Made {
+    let mut text = io::buffer();
+    let n = os::arg(i, &mut text);
+    if os::errno() != 0 {
+        io::write_all(STDERR_FILENO, b"receipt: a file's name is too long\n");
+        return none_made();
+    }
+    print_file(digest, opened, &text[..n])
+}
+
+// Prints the receipt of the file of a name.
+fn print_file(digest: bool, opened: Record, name: &[u8]) -> Made
+    requires { ⌜ length (now name) ≤ nameBytes ⌝ }
+{
+    let t = read_file(name, opened);
+    if !t.good {
+        return none_made();
+    }
+    let receipt = receipt_of(t.record);
+    let good = print_receipt(digest, opened.n, receipt, name);
+    Made {
+        good: good,
+        receipt: receipt,
+    }
+}
+
+fn receipt_of(r: Record) -> [u8; RECEIPT] {
+    let mut receipt = [0u8; RECEIPT];
+    close::close(r, 0, 0, &mut receipt);
+    receipt
+}
+
+fn none_made() -> Made {
+    Made {
+        good: false,
+        receipt: [0u8; RECEIPT],
+    }
+}
+
+// The record of a file's bytes. A dash names standard input.
+fn read_file(name: &[u8], opened: Record) -> Reading {
     if equal::equal_bytes(name, b"-") {
-        return read_all(STDIN_FILENO, name, opened, chunk);
+        return read_all(STDIN_FILENO, name, opened);
     }
     let fd = os::open_read(name);
     if fd < 0 {
         fail(name);
         return so_far(false, false, opened);
     }
-    let t = read_all(fd, name, opened, chunk);
+    let t = read_all(fd, name, opened);
     libc::close(fd);
     t
 }
 
 // A proved loop has to end, and nothing says that a file does, so the reads are counted down from a number that no run uses up.
-fn read_all(fd: i32, name: &[u8], opened: Record, chunk: &mut [u8]) -> Reading {
+fn read_all(fd: i32, name: &[u8], opened: Record) -> Reading {
+    let mut chunk = io::large_buffer();
     let mut t = so_far(true, true, opened);
     let mut reads = u64::MAX;
     while reads > 0 && t.more {
-        t = read_some(fd, name, t.record, chunk);
+        t = read_some(fd, name, t.record, &mut chunk);
         reads -= 1;
     }
     t
@@ -377,13 +384,18 @@ fn read_some(fd: i32, name: &[u8], r: Record, chunk: &mut [u8]) -> Reading {
         fail(name);
         return so_far(false, false, r);
     }
-    if got == 0 {
+    let n = io::count(got, chunk);
+    append(name, r, &chunk[..n])
+}
+
+// Appends the bytes of a read, which had none if the file has no more.
+fn append(name: &[u8], r: Record, piece: &[u8]) -> Reading {
+    if piece.len() == 0 {
         return so_far(true, false, r);
     }
-    let n = io::count(got, chunk);
-    let o = record::append(r, &chunk[..n]);
+    let o = record::append(r, piece);
     if o.number != 0 {
-        name_wrong(name, b"it has more than 2^40 bytes");
+        say(name, b": it has more than 2^40 bytes\n");
         return so_far(false, false, r);
     }
     so_far(true, true, o.next)
@@ -403,76 +415,82 @@ fn fail(name: &[u8]) {
     os::fail(name);
 }
 
-// Puts a receipt into its place of the list, if there is one.
-fn keep(list: &mut [u8], count: usize, receipt: [u8; RECEIPT])
-    requires { ⌜ 65280 ≡ length (now list) ⌝ }
-{
-    if till::MOST_RECEIPTS <= count {
-        return;
-    }
-    let r = receipt;
-    text::put(list, RECEIPT * count, &r);
-}
-
-// Prints a line: the receipt, or its digest of n bits alone, and the name. As sha256sum does, a line whose name has a backslash or a newline
-// begins with a backslash, and these are written with one.
-fn print_receipt(digest: bool, n: u64, receipt: [u8; RECEIPT], name: &[u8], line: &mut [u8]) -> bool
-    requires { ⌜ (65536 ≡ length (now line)) × (length (now name) ≤ 4096) ⌝ }
-{
-    let a = put_mark(line, name);
-    let b = put_shown(digest, n, receipt, line, a);
-    let c = text::put(line, b, b"  ");
-    let d = put_name(line, c, name);
-    let e = text::put(line, d, b"\n");
-    if io::write_all(STDOUT_FILENO, &line[..e]) {
-        return true;
-    }
-    say(b"the output cannot be written");
-    false
-}
-
-// The backslash at the front of the line, if the name wants one.
-fn put_mark(line: &mut [u8], name: &[u8]) -> usize
-    requires { ⌜ 65536 ≡ length (now line) ⌝ }
-    ensures { λ r. ⌜ r ≤ 1 ⌝ }
-{
-    let size = name.len();
-    if script::until(name, b'\\') < size {
-        return text::put(line, 0, b"\\");
-    }
-    if script::until(name, b'\n') < size {
-        return text::put(line, 0, b"\\");
-    }
-    0
-}
-
-// The digits of the receipt, or of its digest alone.
-fn put_shown(digest: bool, n: u64, receipt: [u8; RECEIPT], line: &mut [u8], at: usize) -> usize
-    requires { ⌜ (65536 ≡ length (now line)) × (at ≤ 1) ⌝ }
-    ensures { λ r. ⌜ r ≤ 138 ⌝ }
+// Prints a receipt, or its digest of n bits alone, and the name.
+fn print_receipt(digest: bool, n: u64, receipt: [u8; RECEIPT], name: &[u8]) -> bool
+    requires { ⌜ length (now name) ≤ nameBytes ⌝ }
 {
     let r = receipt;
     if digest {
         let end = digest_end(n);
-        return text::put_bytes(line, at, &r[4..end]);
+        return print_line(&r[DIGEST..end], name);
     }
-    text::put_bytes(line, at, &r)
+    print_line(&r, name)
 }
 
-// The place after the digest of n bits, which begins at byte 4.
+// The place after a digest of n bits in a receipt.
 fn digest_end(n: u64) -> usize
-    ensures { λ r. ⌜ (4 ≤ r) × (r ≤ 68) ⌝ }
+    ensures { λ r. ⌜ (digestPlace ≤ r) × (r ≤ receiptBytes) ⌝ }
 {
-    if 512 < n {
-        return 68;
+    let most = 8 * (RECEIPT - DIGEST) as u64;
+    if most < n {
+        return RECEIPT;
     }
-    4 + ((n + 7) / 8) as usize
+    let bytes = (n + 7) / 8;
+    DIGEST + bytes as usize
+}
+
+// Prints bytes of a receipt and the name in a line.
+fn print_line(shown: &[u8], name: &[u8]) -> bool
+    requires { ⌜ (length (now shown) ≤ receiptBytes) × (length (now name) ≤ nameBytes) ⌝ }
+{
+    let mut line = line_buffer();
+    let end = put_line(&mut line, shown, name);
+    let first = line_begin(name);
+    if io::write_all(STDOUT_FILENO, &line[first..end]) {
+        return true;
+    }
+    io::write_all(STDERR_FILENO, b"receipt: the output cannot be written\n");
+    false
+}
+
+// Writes a line and answers where it ends. As sha256sum does, a line whose name has a backslash or a newline begins with a backslash, and these
+// are written with one.
+fn put_line(line: &mut [u8], shown: &[u8], name: &[u8]) -> usize
+    requires { ⌜ (lineBytes ≡ length (now line)) × (length (now shown) ≤ receiptBytes) × (length (now name) ≤ nameBytes) ⌝ }
+    ensures { λ r. ⌜ (1 ≤ r) × (r ≤ lineBytes) ⌝ }
+{
+    let a = text::put_bytes(line, 1, shown);
+    let b = text::put(line, a, b"  ");
+    let c = put_name(line, b, name);
+    line[0] = b'\\';
+    line[c] = b'\n';
+    c + 1
+}
+
+fn line_buffer() -> [u8; LINE]
+    ensures { λ r. ⌜ lineBytes ≡ length r ⌝ }
+{
+    [0; LINE]
+}
+
+// Where a line begins: at its backslash if the name wants one, and after it if not.
+fn line_begin(name: &[u8]) -> usize
+    ensures { λ r. ⌜ r ≤ 1 ⌝ }
+{
+    let size = name.len();
+    if script::until(name, b'\\') < size {
+        return 0;
+    }
+    if script::until(name, b'\n') < size {
+        return 0;
+    }
+    1
 }
 
 // The name from a place on, with its escaped bytes.
 fn put_name(line: &mut [u8], from: usize, name: &[u8]) -> usize
-    requires { ⌜ (65536 ≡ length (now line)) × (from ≤ 140) × (length (now name) ≤ 4096) ⌝ }
-    ensures { λ r. ⌜ r ≤ 8332 ⌝ }
+    requires { ⌜ from + 2 * length (now name) ≤ length (now line) ⌝ }
+    ensures { λ r. ⌜ (from ≤ r) × (r ≤ from + 2 * length (now (name .entry))) ⌝ }
 {
     let mut at = from;
     let mut i: usize = 0;
@@ -483,33 +501,48 @@ fn put_name(line: &mut [u8], from: usize, name: &[u8]) -> usize
     at
 }
 
+// A byte of the name, or a backslash and its letter.
 fn put_byte(line: &mut [u8], at: usize, c: u8) -> usize
     requires { ⌜ at + 2 ≤ length (now line) ⌝ }
-    ensures { λ r. ⌜ r ≤ at + 2 ⌝ }
+    ensures { λ r. ⌜ (at ≤ r) × (r ≤ at + 2) ⌝ }
 {
-    if c == b'\\' {
-        return text::put(line, at, b"\\\\");
+    let escaped = letter(c);
+    if escaped == 0 {
+        line[at] = c;
+        return at + 1;
     }
-    if c == b'\n' {
-        return text::put(line, at, b"\\n");
+    let next = at + 1;
+    line[at] = b'\\';
+    line[next] = escaped;
+    next + 1
+}
+
+// What a byte is written as after a backslash; 0 if it is written without one.
+fn letter(c: u8) -> u8 {
+    match c {
+        b'\\' => b'\\',
+        b'\n' => b'n',
+        _ => 0,
     }
-    let one = [c];
-    text::put(line, at, &one)
 }
 
 // The last line: the tally of the receipts.
 fn tally(list: &[u8], count: usize)
-    requires { ⌜ 65280 ≡ length (now list) ⌝ }
+    requires { ⌜ listBytes ≡ length (now list) ⌝ }
 {
     if till::MOST_RECEIPTS < count {
-        say(b"--tally takes 960 files at most");
+        io::write_all(STDERR_FILENO, b"receipt: --tally takes 960 files at most\n");
         return;
     }
     let end = RECEIPT * count;
     let t = till::tally(&list[..end]);
+    print_counts(t.firsts, t.reprints);
+}
+
+fn print_counts(firsts: u64, reprints: u64) {
     io::write_all(STDOUT_FILENO, b"firsts ");
-    io::print_decimal(STDOUT_FILENO, t.firsts);
+    io::print_decimal(STDOUT_FILENO, firsts);
     io::write_all(STDOUT_FILENO, b" reprints ");
-    io::print_decimal(STDOUT_FILENO, t.reprints);
+    io::print_decimal(STDOUT_FILENO, reprints);
     io::write_all(STDOUT_FILENO, b"\n");
 }

@@ -12,4 +12,18 @@ abbrev μ-loop : tie.MeasureT-loop
 μ-loop fd name chunk₀ t₀ reads₀ chunk t reads = reads
 
 pub read-all-spec : {M : Type 1} → statement M
-read-all-spec = tie.close (tie.spec Inv-loop μ-loop (λ c κs. tt) (λ c. refl) (λ c κs. tt) (λ c. omega arith) (λ c. omega arith) (λ c. omega (arith, c .before .before .read-some .kept .1 .1 .1 .0)) (λ c. c .before .before .loop .inv) (λ c. tt) (λ c. c .before .loop .inv) (λ c. tt))
+read-all-spec =
+    tie.close
+    (tie.spec
+    Inv-loop
+    μ-loop
+    (λ c κs. tt)
+    (λ c κs. tt)
+    (λ c. refl)
+    (λ c. omega arith)
+    (λ c κs. tt)
+    (λ c. omega arith)
+    (λ c. omega arith)
+    (λ c. omega arith)
+    (λ c. tt)
+    (λ c. tt))

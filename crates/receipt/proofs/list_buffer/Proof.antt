@@ -1,0 +1,13 @@
+-- `receipt::list_buffer` meets its contract. Assumes nothing.
+use mathlib.Core.Path.{sym}
+use Prim.Native.Nat.{ℕ}
+use lib.ListN.{length-replicate}
+use Rattle.finalization.specs.Receipt.{receiptBytes}
+use Rattle.till.specs.Tally.{mostReceipts}
+use Rattle.receipt.specs.Sizes.{listBytes}
+use Rattle.receipt.proofs.list_buffer.Statement.{statement}
+use Rattle.receipt.proofs.list_buffer.Tie as tie
+
+pub list-buffer-spec : {M : Type 1} → statement M
+unfolding listBytes mostReceipts receiptBytes
+list-buffer-spec = tie.close (tie.spec (λ c. sym (length-replicate {A = ℕ} listBytes 0)))

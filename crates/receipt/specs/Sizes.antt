@@ -1,0 +1,21 @@
+-- The sizes of the program's buffers, and what they are made of.
+-- Assumes nothing.
+use Prim.Native.Nat.{ℕ, _+_, _*_}
+use Rattle.finalization.specs.Receipt.{receiptBytes}
+use Rattle.till.specs.Tally.{mostReceipts}
+
+-- where the digest begins in a receipt
+unfoldable pub digestPlace : ℕ
+digestPlace = 4
+
+-- the most receipts that a tally takes, end to end
+unfoldable pub listBytes : ℕ
+listBytes = mostReceipts * receiptBytes
+
+-- the longest name of a file, which is what `io::buffer` has room for
+unfoldable pub nameBytes : ℕ
+nameBytes = 4096
+
+-- a line: a backslash, the digits of a receipt, two spaces, a name each of whose bytes is escaped, and the newline; `text::put_bytes` asks for one more
+unfoldable pub lineBytes : ℕ
+lineBytes = 1 + (2 * receiptBytes + 1) + 2 + 2 * nameBytes + 1
