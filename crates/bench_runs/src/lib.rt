@@ -4,7 +4,8 @@ ghost use Rattle.lsh.specs.WordSize.{lsh256, lsh512};
 ghost use Rattle.lsh.specs.Block.{forwards, backwards};
 ghost use Rattle.bench_runs.specs.Runs.{runsAnswer, runsBytes, byHand};
 ghost use Rattle.lsh.specs.Tabulate.{at};
-ghost use Rattle.record.specs.Calls.{openCall, appendCall};
+ghost use Rattle.record.specs.Open.{openCall};
+ghost use Rattle.append.specs.Append.{appendCall};
 ghost use Rattle.rewind.specs.Rewind.{rewindCall};
 ghost use Rattle.till.specs.Tally.{tallyCall};
 use lsh256::Lsh256;
@@ -73,7 +74,7 @@ pub extern "C" fn bench_append(w: u64, n: u64, piece: &[u8]) -> u64
     ensures { λ r. ⌜ r ≡ at (appendCall (openCall w n .next) (now (piece .entry)) .next .chain) 0 ⌝ }
 {
     let opened = record::open(w, n);
-    let appended = record::append(opened.next, piece);
+    let appended = append::append(opened.next, piece);
     let next = appended.next;
     next.chain[0]
 }

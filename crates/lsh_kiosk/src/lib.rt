@@ -3,7 +3,8 @@
 ghost use mathlib.Core.Path.{_≡_};
 ghost use lib.ListN.{length};
 ghost use Rattle.block_call.specs.BlockCall.{blockAnswer, forwardBytes, backwardBytes};
-ghost use Rattle.record.specs.Calls.{openCall, appendCall};
+ghost use Rattle.record.specs.Open.{openCall};
+ghost use Rattle.append.specs.Append.{appendCall};
 ghost use Rattle.rewind.specs.Rewind.{rewindCall};
 ghost use Rattle.close.specs.Close.{closeAnswer, closeOutput};
 ghost use Rattle.whole.specs.Whole.{wholeAnswer, wholeOutput};
@@ -39,7 +40,7 @@ pub extern "C" fn lsh_open(w: u64, n: u64) -> Outcome
 pub extern "C" fn lsh_append(r: Record, piece: &[u8]) -> Outcome
     ensures { λ o. ⌜ o ≡ appendCall r (now (piece .entry)) ⌝ }
 {
-    record::append(r, piece)
+    append::append(r, piece)
 }
 
 #[no_mangle]

@@ -393,7 +393,7 @@ fn append(name: &[u8], r: Record, piece: &[u8]) -> Reading {
     if piece.len() == 0 {
         return so_far(true, false, r);
     }
-    let o = record::append(r, piece);
+    let o = append::append(r, piece);
     if o.number != 0 {
         say(name, b": it has more than 2^40 bytes\n");
         return so_far(false, false, r);

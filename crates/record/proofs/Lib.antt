@@ -2,6 +2,4 @@
 pub mod Lists
 pub mod Sound
 pub mod Held
-pub mod Appending
-pub mod Joins
 pub mod Strings

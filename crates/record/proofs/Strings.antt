@@ -1,9 +1,10 @@
--- The record of a byte string within the limit is sound, and it holds the bytes after the last whole block.
+-- The record of a byte string within the limit is sound, it holds the bytes after the last whole block, and that of no bytes is what Open makes.
 -- Assumes nothing.
 use mathlib.Core.Path.{_≡_, refl, ap, _∙_, subst}
 use mathlib.Core.Bool.{true}
-use mathlib.Core.List.{List}
+use mathlib.Core.List.{List, []}
 use Prim.Native.Nat.{ℕ, zero, suc, _-_, _%_, _^_, _≤_, _<_}
+use native.Mathlib.Nat.{zero-mul, zero-div}
 use borrow.Author.Tests.{le-leb}
 use lib.ListN.{length, drop, replicate}
 use lib.Seq.{take-at, drop-at}
@@ -11,13 +12,14 @@ use Rattle.lsh.specs.Tabulate.{at}
 use Rattle.lsh.specs.WordSize.{WordSize, isWordSize, sizeOf, blockBytes}
 use Rattle.lsh.specs.Block.{Chain, forwards}
 use Rattle.lsh.specs.Opening.{opening}
-use Rattle.lsh.specs.Padding.{blocksOf, restOf}
+use Rattle.lsh.specs.Padding.{firstBlocks, blocksOf, restOf}
 use Rattle.lsh.proofs.Figures.{amounts, bits-are, block-some}
 use Rattle.lsh.proofs.Blocks.{forwards-chain}
 use Rattle.lsh.proofs.Opening.{opening-chain}
 use Rattle.lsh.proofs.Padding.{length-rest}
 use Rattle.runs.specs.Limits.{longestBlock, isDigestLength, limit}
 use Rattle.record.specs.Record.{heldOf, allBelow, allZero, sound, heldBytes, recordOf}
+use Rattle.record.specs.Open.{opened}
 use Rattle.record.proofs.Lists.{all-below}
 
 pub all-zero : (k : ℕ) → allZero (replicate k 0) ≡ true
@@ -53,3 +55,8 @@ module _ (w n : ℕ) (m : List ℕ) (word : isWordSize w ≡ true) where
   pub record-sound : isDigestLength w n ≡ true → length m ≤ limit → sound (recordOf w n m) ≡ true
   unfolding sound recordOf
   record-sound digest few = rw (word, digest, le-leb (length m) limit few, below) zero-after
+
+-- the record of no bytes is that of a new order
+pub record-none : (w n : ℕ) → recordOf w n [] ≡ opened w n
+unfolding recordOf opened blocksOf firstBlocks restOf forwards
+record-none w n = rw (zero-div (blockBytes (sizeOf w)), zero-mul (blockBytes (sizeOf w)))

@@ -1,4 +1,4 @@
--- The record of an order: when it is sound, the bytes it holds, and the record of a byte string.
+-- The record of an order: when it is sound, the bytes it holds, and the record of a byte string; and the answer to a refused call.
 -- Assumes nothing.
 use mathlib.Core.Bool.{Bool, true, _&&_}
 use mathlib.Core.List.{List, [], _∷_}
@@ -12,6 +12,7 @@ use Rattle.lsh.specs.Padding.{blocksOf, restOf}
 use Rattle.runs.specs.Limits.{longestBlock, isDigestLength, limit}
 use Rattle.runs.specs.ZeroFilled.{zeroFilled}
 use Rattle.record.specs.declared.Record.{Record}
+use Rattle.record.specs.declared.Outcome.{Outcome}
 
 -- the bytes s, and zeros after them, as many in all as a block has at most
 unfoldable pub heldOf : List ℕ → List ℕ
@@ -58,3 +59,7 @@ recordOf w n m =
       chain = forwards (sizeOf w) (blocksOf (sizeOf w) m) (opening (sizeOf w) n);
       held = heldOf (restOf (sizeOf w) m);
     }
+
+-- a refused call: no block is run, and the record is as given here
+unfoldable pub refused : ℕ → Record → Outcome
+refused number r = record { number = number; count = 0; next = r }

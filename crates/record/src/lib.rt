@@ -1,15 +1,13 @@
-// The record of an order, and the calls Open and Append.
+// The record of an order, and the call Open.
 ghost use mathlib.Core.Path.{_≡_};
 ghost use mathlib.Core.Bool.{true};
-ghost use Prim.Native.Nat.{_+_, _/_, _^_, _<_, _≤_};
+ghost use Prim.Native.Nat.{_+_, _^_, _≤_};
 ghost use lib.ListN.{length, drop};
 ghost use lib.Seq.{paste};
-ghost use Rattle.lsh.specs.WordSize.{isWordSize, sizeOf, blockBytes};
-ghost use Rattle.lsh.specs.Block.{Chain, forwards};
-ghost use Rattle.lsh.specs.Padding.{blocksOf, restOf};
-ghost use Rattle.runs.specs.Limits.{longestBlock, limit};
-ghost use Rattle.record.specs.Record.{heldOf, heldLength, allBelow, allZero, sound, zeros};
-ghost use Rattle.record.specs.Calls.{refused, openCall, appendAccepted, appendCall};
+ghost use Rattle.lsh.specs.WordSize.{isWordSize};
+ghost use Rattle.runs.specs.Limits.{longestBlock};
+ghost use Rattle.record.specs.Record.{heldOf, heldLength, allBelow, allZero, sound, zeros, refused};
+ghost use Rattle.record.specs.Open.{openCall};
 use runs::LONGEST_BLOCK;
 
 // What is kept of an order between calls: the word size, the digest length in bits, how many bytes there were, the chain after
@@ -29,13 +27,6 @@ pub struct Outcome {
     pub number: u32,
     pub count: u64,
     pub next: Record,
-}
-
-// A chain after whole blocks, how many there were, and the held bytes after them.
-struct Taken {
-    chain: [u64; 16],
-    count: u64,
-    held: [u8; LONGEST_BLOCK],
 }
 
 // The record of a new order.
@@ -152,138 +143,6 @@ pub fn zero_from(s: &[u8], at: usize) -> bool
     true
 }
 
-// The record after the piece.
-pub fn append(r: Record, piece: &[u8]) -> Outcome
-    ensures { λ o. ⌜ o ≡ appendCall r (now (piece .entry)) ⌝ }
-{
-    if !is_sound(r) {
-        return refused(3, r);
-    }
-    let total = r.total;
-    let w = r.w;
-    let len = piece.len();
-    if runs::LIMIT as u64 - total < len as u64 {
-        return refused(5, r);
-    }
-    let at = held_length(w, total);
-    if at == 0 {
-        return append_even(r, piece);
-    }
-    if at + len < runs::block_bytes(w) {
-        return append_short(r, piece);
-    }
-    append_long(r, piece)
-}
-
-// To a record that holds no bytes.
-fn append_even(r: Record, piece: &[u8]) -> Outcome
-    requires { ⌜ (sound r ≡ true) × (r .total + length (now piece) ≤ limit) × (heldLength (r .w) (r .total) ≡ 0) ⌝ }
-    ensures { λ o. ⌜ o ≡ appendAccepted r (now (piece .entry)) ⌝ }
-{
-    let w = r.w;
-    let n = r.n;
-    let total = r.total;
-    let chain = r.chain;
-    let t = take_whole(w, chain, piece);
-    let count = t.count;
-    let c = t.chain;
-    let h = t.held;
-    let sum = total + piece.len() as u64;
-    let next = Record {
-        w: w,
-        n: n,
-        total: sum,
-        chain: c,
-        held: h,
-    };
-    Outcome {
-        number: 0,
-        count: count,
-        next: next,
-    }
-}
-
-// A piece that does not fill the block begun.
-fn append_short(r: Record, piece: &[u8]) -> Outcome
-    requires { ⌜ (sound r ≡ true) × (r .total + length (now piece) ≤ limit) × (heldLength (r .w) (r .total) + length (now piece) < blockBytes (sizeOf (r .w))) ⌝ }
-    ensures { λ o. ⌜ o ≡ appendAccepted r (now (piece .entry)) ⌝ }
-{
-    let w = r.w;
-    let n = r.n;
-    let total = r.total;
-    let chain = r.chain;
-    let held = r.held;
-    let at = held_length(w, total);
-    let joined = put(held, at, piece);
-    let sum = total + piece.len() as u64;
-    let next = Record {
-        w: w,
-        n: n,
-        total: sum,
-        chain: chain,
-        held: joined,
-    };
-    Outcome {
-        number: 0,
-        count: 0,
-        next: next,
-    }
-}
-
-// A piece that fills the block begun: this block is run first, and the blocks after it straight from the piece.
-fn append_long(r: Record, piece: &[u8]) -> Outcome
-    requires { ⌜ (sound r ≡ true) × (r .total + length (now piece) ≤ limit) × (blockBytes (sizeOf (r .w)) ≤ heldLength (r .w) (r .total) + length (now piece)) ⌝ }
-    ensures { λ o. ⌜ o ≡ appendAccepted r (now (piece .entry)) ⌝ }
-{
-    let w = r.w;
-    let n = r.n;
-    let total = r.total;
-    let chain = r.chain;
-    let held = r.held;
-    let size = runs::block_bytes(w);
-    let at = held_length(w, total);
-    let room = size - at;
-    let first = put(held, at, &piece[..room]);
-    let begun = runs::forward(w, chain, &first[..size]);
-    let filled = begun.chain;
-    let t = take_whole(w, filled, &piece[room..]);
-    let count = t.count + 1;
-    let c = t.chain;
-    let h = t.held;
-    let sum = total + piece.len() as u64;
-    let next = Record {
-        w: w,
-        n: n,
-        total: sum,
-        chain: c,
-        held: h,
-    };
-    Outcome {
-        number: 0,
-        count: count,
-        next: next,
-    }
-}
-
-// The whole blocks of the piece are run on the chain, and the rest of the piece is held.
-fn take_whole(w: u64, chain: [u64; 16], piece: &[u8]) -> Taken
-    requires { ⌜ (isWordSize w ≡ true) × Chain (sizeOf w) chain ⌝ }
-    ensures { λ t. ⌜ (t .chain ≡ forwards (sizeOf w) (blocksOf (sizeOf w) (now (piece .entry))) chain)
-        × (t .count ≡ length (now (piece .entry)) / blockBytes (sizeOf w))
-        × (t .held ≡ heldOf (restOf (sizeOf w) (now (piece .entry)))) ⌝ }
-{
-    let run = runs::forward(w, chain, piece);
-    let c = run.chain;
-    let count = run.count;
-    let at = count * runs::block_bytes(w);
-    let held = hold(&piece[at..]);
-    Taken {
-        chain: c,
-        count: count as u64,
-        held: held,
-    }
-}
-
 // The held bytes that begin with the part, the others 0.
 pub fn hold(part: &[u8]) -> [u8; LONGEST_BLOCK]
     requires { ⌜ length (now part) ≤ longestBlock ⌝ }
@@ -294,7 +153,7 @@ pub fn hold(part: &[u8]) -> [u8; LONGEST_BLOCK]
 }
 
 // The held bytes with the part written from a place on.
-fn put(held: [u8; LONGEST_BLOCK], at: usize, part: &[u8]) -> [u8; LONGEST_BLOCK]
+pub fn put(held: [u8; LONGEST_BLOCK], at: usize, part: &[u8]) -> [u8; LONGEST_BLOCK]
     requires { ⌜ at + length (now part) ≤ longestBlock ⌝ }
     ensures { λ r. ⌜ r ≡ paste held at (now (part .entry)) (length (now (part .entry))) ⌝ }
 {

@@ -13,7 +13,7 @@ pub fn open(v: [u64; WORDS]) -> Reply {
 
 // append BYTES
 pub fn append(v: [u64; WORDS], r: Record, given: &[u8]) -> Reply {
-    let o = record::append(r, words::part(given, 0, v[0]));
+    let o = append::append(r, words::part(given, 0, v[0]));
     reply::count(o.number, o.count, o.next)
 }
 

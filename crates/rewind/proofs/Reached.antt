@@ -14,8 +14,7 @@ use Rattle.lsh.proofs.Figures.{amounts}
 use Rattle.lsh.proofs.Blocks.{backwards-chain, forwards-backwards, only-chain}
 use Rattle.record.specs.declared.Record.{Record}
 use Rattle.record.specs.declared.Outcome.{Outcome}
-use Rattle.record.specs.Record.{sound}
-use Rattle.record.specs.Calls.{refused}
+use Rattle.record.specs.Record.{sound, refused}
 use Rattle.record.proofs.Sound.{Sound, sounds, chain-is}
 use Rattle.rewind.specs.Rewind.{startsOffBlock, keepsTooMuch, heldDiffers, reached, openingDiffers, rewound, rewindCall}
 

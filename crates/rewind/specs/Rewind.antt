@@ -12,8 +12,7 @@ use Rattle.lsh.specs.Padding.{blocksOf}
 use Rattle.equal.specs.Equal.{equal}
 use Rattle.record.specs.declared.Record.{Record}
 use Rattle.record.specs.declared.Outcome.{Outcome}
-use Rattle.record.specs.Record.{heldOf, heldLength, heldBytes, sound}
-use Rattle.record.specs.Calls.{refused}
+use Rattle.record.specs.Record.{heldOf, heldLength, heldBytes, sound, refused}
 
 -- 6, with blocks of b bytes: the size bytes handed back are more than the total, or do not begin with a block
 unfoldable pub startsOffBlock : ℕ → ℕ → ℕ → Bool

@@ -12,9 +12,9 @@ use lib.ListN.{length}
 use Rattle.lsh.specs.WordSize.{isWordSize, sizeOf, blockBytes}
 use Rattle.runs.specs.Limits.{isDigestLength, limit}
 use Rattle.record.specs.declared.Outcome.{Outcome}
-use Rattle.record.specs.Record.{zeros, recordOf}
-use Rattle.record.specs.Calls.{refused, opened, openCall}
-use Rattle.record.proofs.Joins.{record-none}
+use Rattle.record.specs.Record.{zeros, recordOf, refused}
+use Rattle.record.specs.Open.{opened, openCall}
+use Rattle.record.proofs.Strings.{record-none}
 use Rattle.rewind.specs.Rewind.{startsOffBlock, keepsTooMuch}
 use Rattle.tape.specs.Sequence.{Given, answers}
 use Rattle.tape.specs.Tape.{wholeBlocks, stays, tapeAppend, tapeRewind}

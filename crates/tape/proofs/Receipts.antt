@@ -8,7 +8,7 @@ use mathlib.Core.Bool.{true}
 use Rattle.lsh.specs.WordSize.{isWordSize}
 use Rattle.runs.specs.Limits.{isDigestLength}
 use Rattle.record.specs.declared.Record.{Record}
-use Rattle.record.specs.Calls.{openCall}
+use Rattle.record.specs.Open.{openCall}
 use Rattle.whole.specs.Whole.{wholeAnswer, wholeOutput}
 use Rattle.close.specs.Close.{closeAnswer, closeOutput}
 use Rattle.close.proofs.Messages.{same-answer, same-output}

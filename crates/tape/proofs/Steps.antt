@@ -21,10 +21,10 @@ use Rattle.lsh.proofs.Opening.{opening-chain}
 use Rattle.lsh.proofs.Padding.{blocks-short}
 use Rattle.runs.specs.Limits.{isDigestLength, limit}
 use Rattle.equal.proofs.Equal.{equal-self}
-use Rattle.record.specs.Record.{sound, heldOf, recordOf}
-use Rattle.record.specs.Calls.{refused, appendAccepted, appendCall}
-use Rattle.record.proofs.Joins.{append-record}
+use Rattle.record.specs.Record.{sound, heldOf, recordOf, refused}
 use Rattle.record.proofs.Strings.{held-record, record-sound}
+use Rattle.append.specs.Append.{appendAccepted, appendCall}
+use Rattle.append.proofs.Joins.{append-record}
 use Rattle.rewind.specs.Rewind.{startsOffBlock, keepsTooMuch, heldDiffers, reached, openingDiffers, rewound, rewindCall}
 use Rattle.rewind.proofs.Lengths.{OnBlock, on-block, keeps-few, total-is, same-fill}
 use Rattle.tape.specs.Sequence.{Given}

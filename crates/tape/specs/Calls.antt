@@ -7,7 +7,7 @@ use lib.ListN.{length, drop}
 use Rattle.lsh.specs.Tabulate.{at}
 use Rattle.record.specs.declared.Record.{Record}
 use Rattle.record.specs.declared.Outcome.{Outcome}
-use Rattle.record.specs.Calls.{appendCall}
+use Rattle.append.specs.Append.{appendCall}
 use Rattle.rewind.specs.Rewind.{rewindCall}
 use Rattle.tape.specs.Sequence.{Answer, Given}
 use Rattle.tape.specs.Tape.{tapeAppend, tapeRewind}

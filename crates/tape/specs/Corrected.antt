@@ -7,7 +7,7 @@ use Prim.Native.Nat.{ℕ, _+_}
 use lib.Dec.{eqb}
 use Rattle.record.specs.declared.Record.{Record}
 use Rattle.record.specs.Record.{recordOf}
-use Rattle.record.specs.Calls.{openCall}
+use Rattle.record.specs.Open.{openCall}
 use Rattle.tape.specs.Sequence.{Answer, after, answers, Throughout, sum}
 use Rattle.tape.specs.Tape.{wholeBlocks}
 use Rattle.tape.specs.Calls.{Call, recordCall, tapeCall, HandsBack, forwardCount, backwardCount}

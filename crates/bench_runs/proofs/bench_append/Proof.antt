@@ -3,7 +3,7 @@ use mathlib.Core.Path.{ap, _∙_}
 use borrow.Author.Needs.{needs}
 use Rattle.lsh.specs.Tabulate.{at}
 use Rattle.record.specs.declared.Outcome.{Outcome}
-use Rattle.record.specs.Calls.{appendCall}
+use Rattle.append.specs.Append.{appendCall}
 use Rattle.bench_runs.proofs.bench_append.Statement.{statement}
 use Rattle.bench_runs.proofs.bench_append.Tie as tie
 

@@ -7,7 +7,7 @@ use Rattle.lsh.specs.WordSize.{isWordSize}
 use Rattle.lsh.specs.Opening.{opening}
 use Rattle.runs.specs.Limits.{isDigestLength}
 use Rattle.record.specs.Record.{heldOf}
-use Rattle.record.specs.Calls.{opened, openCall}
+use Rattle.record.specs.Open.{opened, openCall}
 use Rattle.runs.proofs.Limits.{digest-most}
 use Rattle.record.proofs.open.Statement.{statement}
 use Rattle.record.proofs.open.Tie as tie

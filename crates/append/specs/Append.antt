@@ -1,33 +1,17 @@
--- Open and Append: the answer's number, the count of blocks and the record that follows.
+-- Append: the answer's number, the count of blocks and the record that follows.
 -- Assumes nothing.
 use mathlib.Core.Bool.{not, cond}
-use mathlib.Core.List.{List, [], _++_}
+use mathlib.Core.List.{List, _++_}
 use Prim.Native.Nat.{ℕ, _+_, _-_, _/_}
 use lib.Dec.{ltb}
 use lib.ListN.{length}
-use Rattle.lsh.specs.WordSize.{isWordSize, sizeOf, blockBytes}
+use Rattle.lsh.specs.WordSize.{sizeOf, blockBytes}
 use Rattle.lsh.specs.Block.{forwards}
-use Rattle.lsh.specs.Opening.{opening}
 use Rattle.lsh.specs.Padding.{blocksOf, restOf}
-use Rattle.runs.specs.Limits.{isDigestLength, limit}
+use Rattle.runs.specs.Limits.{limit}
 use Rattle.record.specs.declared.Record.{Record}
 use Rattle.record.specs.declared.Outcome.{Outcome}
-use Rattle.record.specs.Record.{heldOf, heldBytes, sound, zeros}
-
--- a refused call: no block is run, and the record is as given here
-unfoldable pub refused : ℕ → Record → Outcome
-refused number r = record { number = number; count = 0; next = r }
-
--- the record of an order without bytes
-unfoldable pub opened : ℕ → ℕ → Record
-opened w n = record { w = w; n = n; total = 0; chain = opening (sizeOf w) n; held = heldOf [] }
-
--- Open: 1 if w is neither 32 nor 64, then 2 if n is no digest length of w, else 0
-unfoldable pub openCall : ℕ → ℕ → Outcome
-openCall w n =
-    cond (not (isWordSize w)) (refused 1 zeros)
-    (cond (not (isDigestLength w n)) (refused 2 zeros)
-    (record { number = 0; count = 0; next = opened w n }))
+use Rattle.record.specs.Record.{heldOf, heldBytes, sound, refused}
 
 -- the record after a piece: the bytes held and the piece are one string, its whole blocks are run and its rest is held
 unfoldable pub appended : Record → List ℕ → Record

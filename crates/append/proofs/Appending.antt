@@ -17,13 +17,14 @@ use Rattle.lsh.proofs.Padding.{blocks-append, rest-none, blocks-short, rest-sho
 use Rattle.runs.specs.Limits.{longestBlock}
 use Rattle.runs.proofs.Limits.{block-most}
 use Rattle.runs.proofs.Zeros.{drop-replicate}
 use Rattle.record.specs.declared.Record.{Record}
 use Rattle.record.specs.declared.Outcome.{Outcome}
 use Rattle.record.specs.Record.{heldOf, heldLength, sound, heldBytes}
-use Rattle.record.specs.Calls.{appended, appendAccepted}
 use Rattle.record.proofs.Lists.{zero-all}
 use Rattle.record.proofs.Sound.{sounds}
-use Rattle.record.proofs.Held.{fill-lt, held-length, total-is}
+use Rattle.record.proofs.Held.{fill-lt, held-length}
+use Rattle.append.specs.Append.{appended, appendAccepted}
+use Rattle.append.proofs.Held.{total-is}
 
 -- the answer to an accepted call
 abbrev answered : Record → ℕ → ℕ → List ℕ → List ℕ → Outcome

@@ -1,4 +1,4 @@
--- `record::take_whole` meets its contract. Assumes nothing.
+-- `append::take_whole` meets its contract. Assumes nothing.
 use mathlib.Core.Path.{ap, _∙_}
 use Prim.Native.Nat.{_*_, _≤_}
 use native.Mathlib.Omega.{arith}
@@ -7,10 +7,10 @@ use mir.Val.{Fits}
 use lib.ListN.{length}
 use borrow.Author.Needs.{needs}
 use Rattle.runs.proofs.Rest.{inside, rest-is, rest-short}
 use Rattle.record.specs.Record.{heldOf}
 use Rattle.runs.proofs.Limits.{block-most}
-use Rattle.record.proofs.take_whole.Statement.{statement}
-use Rattle.record.proofs.take_whole.Tie as tie
+use Rattle.append.proofs.take_whole.Statement.{statement}
+use Rattle.append.proofs.take_whole.Tie as tie
 
 piece-fits : (c : tie.Start) → Fits w64 (length (c .args .piece .now))
 piece-fits c = search needs

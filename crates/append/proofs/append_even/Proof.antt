@@ -1,13 +1,13 @@
--- `record::append_even` meets its contract. Assumes nothing.
+-- `append::append_even` meets its contract. Assumes nothing.
 use mathlib.Core.Path.{_≡_, sym}
 use native.Mathlib.Omega.{arith}
 use lib.ListN.{length}
 use borrow.Author.Needs.{needs}
 use Rattle.runs.specs.Limits.{longestBlock, limit}
 use Rattle.record.proofs.Sound.{sounds, chain-is}
-use Rattle.record.proofs.Appending.{even}
-use Rattle.record.proofs.append_even.Statement.{statement}
-use Rattle.record.proofs.append_even.Tie as tie
+use Rattle.append.proofs.Appending.{even}
+use Rattle.append.proofs.append_even.Statement.{statement}
+use Rattle.append.proofs.append_even.Tie as tie
 
 words : (z : tie.Start) → length (z .args .r .chain) ≡ 16
 words z = search needs

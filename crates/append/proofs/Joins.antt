@@ -2,22 +2,23 @@
 -- Assumes nothing.
 use mathlib.Core.Path.{_≡_, sym, ap, _∙_}
 use mathlib.Core.Bool.{true}
-use mathlib.Core.List.{List, [], _++_, append-assoc}
+use mathlib.Core.List.{List, _++_, append-assoc}
 use Prim.Native.Nat.{ℕ, _+_}
-use native.Mathlib.Nat.{zero-add, zero-mul, zero-div, zero-mod}
+use native.Mathlib.Nat.{zero-add, zero-mod}
 use native.Mathlib.Omega.{arith}
 use lib.ListN.{length, length-append, length-replicate}
 use Rattle.lsh.specs.WordSize.{WordSize, isWordSize, sizeOf, blockBytes}
 use Rattle.lsh.specs.Block.{forwards}
-use Rattle.lsh.specs.Padding.{firstBlocks, blocksOf, restOf}
+use Rattle.lsh.specs.Padding.{blocksOf, restOf}
 use Rattle.lsh.proofs.Figures.{block-some}
 use Rattle.lsh.proofs.Blocks.{forwards-append}
 use Rattle.lsh.proofs.Padding.{blocks-append, rest-append}
 use Rattle.runs.specs.Limits.{longestBlock}
 use Rattle.record.specs.declared.Record.{Record}
 use Rattle.record.specs.Record.{heldOf, heldBytes, recordOf}
-use Rattle.record.specs.Calls.{opened, appended}
-use Rattle.record.proofs.Held.{held-after}
+use Rattle.record.specs.Open.{opened}
+use Rattle.append.specs.Append.{appended}
+use Rattle.append.proofs.Held.{held-after}
 
 module _ (r : Record) (word : isWordSize (r .w) ≡ true) (long : length (r .held) ≡ 256) (p q : List ℕ) where
   abbrev Z : WordSize
@@ -46,11 +47,7 @@ module _ (r : Record) (word : isWordSize (r .w) ≡ true) (long : length (r .hel
   unfolding appended
   append-joins = λ i. record { w = r .w; n = r .n; total = total-joins i; chain = chain-joins i; held = held-joins i }
 
--- the record of no bytes, and of the bytes of one piece
-pub record-none : (w n : ℕ) → recordOf w n [] ≡ opened w n
-unfolding recordOf opened blocksOf firstBlocks restOf forwards
-record-none w n = rw (zero-div (blockBytes (sizeOf w)), zero-mul (blockBytes (sizeOf w)))
-
+-- the record of the bytes of one piece
 record-piece : (w n : ℕ) (m : List ℕ) → appended (opened w n) m ≡ recordOf w n m
 unfolding recordOf opened appended heldBytes
 record-piece w n m = rw (zero-mod (blockBytes (sizeOf w)), zero-add (length m))

@@ -1,13 +1,13 @@
--- `record::append_short` meets its contract. Assumes nothing.
+-- `append::append_short` meets its contract. Assumes nothing.
 use mathlib.Core.Path.{_≡_, sym}
 use native.Mathlib.Omega.{arith}
 use lib.ListN.{length}
 use borrow.Author.Needs.{needs}
 use Rattle.runs.specs.Limits.{longestBlock, limit}
 use Rattle.runs.proofs.Limits.{block-most}
-use Rattle.record.proofs.Appending.{short}
-use Rattle.record.proofs.append_short.Statement.{statement}
-use Rattle.record.proofs.append_short.Tie as tie
+use Rattle.append.proofs.Appending.{short}
+use Rattle.append.proofs.append_short.Statement.{statement}
+use Rattle.append.proofs.append_short.Tie as tie
 
 long : (z : tie.Start) → length (z .args .r .held) ≡ longestBlock
 long z = search needs

@@ -1,4 +1,4 @@
--- `record::append` meets its contract. Assumes nothing.
+-- `append::append` meets its contract. Assumes nothing.
 use mathlib.Core.Path.{_≡_, sym, _∙_}
 use mathlib.Core.Bool.{true}
 use Prim.Native.Nat.{_+_, _≤_, _<_}
@@ -9,11 +9,11 @@ use borrow.Author.Needs.{needs}
 use borrow.Author.Tests.{lt-ltb, le-ltb, not-true, not-false}
 use Rattle.lsh.specs.WordSize.{sizeOf, blockBytes}
 use Rattle.runs.specs.Limits.{limit}
 use Rattle.record.specs.Record.{sound}
-use Rattle.record.specs.Calls.{appendAccepted, appendCall}
 use Rattle.record.proofs.Sound.{Sound, sounds}
-use Rattle.record.proofs.append.Statement.{statement}
-use Rattle.record.proofs.append.Tie as tie
+use Rattle.append.specs.Append.{appendAccepted, appendCall}
+use Rattle.append.proofs.append.Statement.{statement}
+use Rattle.append.proofs.append.Tie as tie
 
 -- the record is sound
 sound-is : (c : tie.Else1) → sound (c .before .before .before .args .r) ≡ true

@@ -1,4 +1,4 @@
--- `record::append_long` meets its contract. Assumes nothing.
+-- `append::append_long` meets its contract. Assumes nothing.
 use mathlib.Core.Path.{_≡_, sym, ap, _∙_, subst}
 use mathlib.Core.List.{List}
 use Prim.Native.Nat.{ℕ, _-_, _/_, _≤_}
@@ -14,12 +14,12 @@ use Rattle.lsh.proofs.Blocks.{forwards-chain}
 use Rattle.runs.specs.Limits.{longestBlock, limit}
 use Rattle.runs.proofs.Limits.{block-most}
 use Rattle.runs.proofs.Rest.{from-place}
 use Rattle.record.specs.declared.Record.{Record}
 use Rattle.record.proofs.Sound.{Sound, sounds, chain-is}
 use Rattle.record.proofs.Held.{fill-lt}
-use Rattle.record.proofs.Appending.{room, first-block, filled}
-use Rattle.record.proofs.append_long.Statement.{statement}
-use Rattle.record.proofs.append_long.Tie as tie
+use Rattle.append.proofs.Appending.{room, first-block, filled}
+use Rattle.append.proofs.append_long.Statement.{statement}
+use Rattle.append.proofs.append_long.Tie as tie
 
 -- at the entry
 module _ (z : tie.Start) where

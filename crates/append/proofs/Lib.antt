@@ -1,0 +1,4 @@
+-- Laws of Append.
+pub mod Held
+pub mod Appending
+pub mod Joins

@@ -1,0 +1,153 @@
+// Append: a piece is added to an order, and the whole blocks that it fills are run.
+ghost use mathlib.Core.Path.{_≡_};
+ghost use mathlib.Core.Bool.{true};
+ghost use Prim.Native.Nat.{_+_, _/_, _<_, _≤_};
+ghost use lib.ListN.{length};
+ghost use Rattle.lsh.specs.WordSize.{isWordSize, sizeOf, blockBytes};
+ghost use Rattle.lsh.specs.Block.{Chain, forwards};
+ghost use Rattle.lsh.specs.Padding.{blocksOf, restOf};
+ghost use Rattle.runs.specs.Limits.{limit};
+ghost use Rattle.record.specs.Record.{heldOf, heldLength, sound};
+ghost use Rattle.append.specs.Append.{appendAccepted, appendCall};
+use record::Outcome;
+use record::Record;
+use runs::LONGEST_BLOCK;
+
+// A chain after whole blocks, how many there were, and the held bytes after them.
+struct Taken {
+    chain: [u64; 16],
+    count: u64,
+    held: [u8; LONGEST_BLOCK],
+}
+
+// The record after the piece.
+pub fn append(r: Record, piece: &[u8]) -> Outcome
+    ensures { λ o. ⌜ o ≡ appendCall r (now (piece .entry)) ⌝ }
+{
+    if !record::is_sound(r) {
+        return record::refused(3, r);
+    }
+    let total = r.total;
+    let w = r.w;
+    let len = piece.len();
+    if runs::LIMIT as u64 - total < len as u64 {
+        return record::refused(5, r);
+    }
+    let at = record::held_length(w, total);
+    if at == 0 {
+        return append_even(r, piece);
+    }
+    if at + len < runs::block_bytes(w) {
+        return append_short(r, piece);
+    }
+    append_long(r, piece)
+}
+
+// To a record that holds no bytes.
+fn append_even(r: Record, piece: &[u8]) -> Outcome
+    requires { ⌜ (sound r ≡ true) × (r .total + length (now piece) ≤ limit) × (heldLength (r .w) (r .total) ≡ 0) ⌝ }
+    ensures { λ o. ⌜ o ≡ appendAccepted r (now (piece .entry)) ⌝ }
+{
+    let w = r.w;
+    let n = r.n;
+    let total = r.total;
+    let chain = r.chain;
+    let t = take_whole(w, chain, piece);
+    let count = t.count;
+    let c = t.chain;
+    let h = t.held;
+    let sum = total + piece.len() as u64;
+    let next = Record {
+        w: w,
+        n: n,
+        total: sum,
+        chain: c,
+        held: h,
+    };
+    Outcome {
+        number: 0,
+        count: count,
+        next: next,
+    }
+}
+
+// A piece that does not fill the block begun.
+fn append_short(r: Record, piece: &[u8]) -> Outcome
+    requires { ⌜ (sound r ≡ true) × (r .total + length (now piece) ≤ limit) × (heldLength (r .w) (r .total) + length (now piece) < blockBytes (sizeOf (r .w))) ⌝ }
+    ensures { λ o. ⌜ o ≡ appendAccepted r (now (piece .entry)) ⌝ }
+{
+    let w = r.w;
+    let n = r.n;
+    let total = r.total;
+    let chain = r.chain;
+    let held = r.held;
+    let at = record::held_length(w, total);
+    let joined = record::put(held, at, piece);
+    let sum = total + piece.len() as u64;
+    let next = Record {
+        w: w,
+        n: n,
+        total: sum,
+        chain: chain,
+        held: joined,
+    };
+    Outcome {
+        number: 0,
+        count: 0,
+        next: next,
+    }
+}
+
+// A piece that fills the block begun: this block is run first, and the blocks after it straight from the piece.
+fn append_long(r: Record, piece: &[u8]) -> Outcome
+    requires { ⌜ (sound r ≡ true) × (r .total + length (now piece) ≤ limit) × (blockBytes (sizeOf (r .w)) ≤ heldLength (r .w) (r .total) + length (now piece)) ⌝ }
+    ensures { λ o. ⌜ o ≡ appendAccepted r (now (piece .entry)) ⌝ }
+{
+    let w = r.w;
+    let n = r.n;
+    let total = r.total;
+    let chain = r.chain;
+    let held = r.held;
+    let size = runs::block_bytes(w);
+    let at = record::held_length(w, total);
+    let room = size - at;
+    let first = record::put(held, at, &piece[..room]);
+    let begun = runs::forward(w, chain, &first[..size]);
+    let filled = begun.chain;
+    let t = take_whole(w, filled, &piece[room..]);
+    let count = t.count + 1;
+    let c = t.chain;
+    let h = t.held;
+    let sum = total + piece.len() as u64;
+    let next = Record {
+        w: w,
+        n: n,
+        total: sum,
+        chain: c,
+        held: h,
+    };
+    Outcome {
+        number: 0,
+        count: count,
+        next: next,
+    }
+}
+
+// The whole blocks of the piece are run on the chain, and the rest of the piece is held.
+fn take_whole(w: u64, chain: [u64; 16], piece: &[u8]) -> Taken
+    requires { ⌜ (isWordSize w ≡ true) × Chain (sizeOf w) chain ⌝ }
+    ensures { λ t. ⌜ (t .chain ≡ forwards (sizeOf w) (blocksOf (sizeOf w) (now (piece .entry))) chain)
+        × (t .count ≡ length (now (piece .entry)) / blockBytes (sizeOf w))
+        × (t .held ≡ heldOf (restOf (sizeOf w) (now (piece .entry)))) ⌝ }
+{
+    let run = runs::forward(w, chain, piece);
+    let c = run.chain;
+    let count = run.count;
+    let at = count * runs::block_bytes(w);
+    let held = record::hold(&piece[at..]);
+    Taken {
+        chain: c,
+        count: count as u64,
+        held: held,
+    }
+}
