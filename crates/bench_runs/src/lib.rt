@@ -7,7 +7,7 @@ ghost use Rattle.lsh.specs.Tabulate.{at};
 ghost use Rattle.record.specs.Open.{openCall};
 ghost use Rattle.append.specs.Append.{appendCall};
 ghost use Rattle.rewind.specs.Rewind.{rewindCall};
-ghost use Rattle.till.specs.Tally.{tallyCall};
+ghost use Rattle.tally.specs.Tally.{tallyCall};
 use lsh256::Lsh256;
 use lsh512::Lsh512;
 use record::Record;
@@ -102,6 +102,6 @@ pub extern "C" fn bench_rewind(w: u64, total: u64, h: &[u8]) -> u64
 pub extern "C" fn bench_tally(list: &[u8]) -> u64
     ensures { λ r. ⌜ r ≡ tallyCall (now (list .entry)) .firsts ⌝ }
 {
-    let counts = till::tally(list);
+    let counts = tally::tally(list);
     counts.firsts
 }

@@ -8,12 +8,12 @@ ghost use Rattle.append.specs.Append.{appendCall};
 ghost use Rattle.rewind.specs.Rewind.{rewindCall};
 ghost use Rattle.close.specs.Close.{closeAnswer, closeOutput};
 ghost use Rattle.whole.specs.Whole.{wholeAnswer, wholeOutput};
-ghost use Rattle.till.specs.Same.{sameCall};
-ghost use Rattle.till.specs.Tally.{tallyCall};
+ghost use Rattle.same.specs.Same.{sameCall};
+ghost use Rattle.tally.specs.Tally.{tallyCall};
 use record::Outcome;
 use record::Record;
-use till::Counts;
-use till::Sameness;
+use same::Sameness;
+use tally::Counts;
 
 #[no_mangle]
 pub extern "C" fn lsh_block_forward(w: u64, chain: &mut [u8], block: &[u8]) -> u32
@@ -75,12 +75,12 @@ pub extern "C" fn lsh_whole(
 pub extern "C" fn lsh_same(a: &[u8], b: &[u8]) -> Sameness
     ensures { λ r. ⌜ r ≡ sameCall (now (a .entry)) (now (b .entry)) ⌝ }
 {
-    till::same(a, b)
+    same::same(a, b)
 }
 
 #[no_mangle]
 pub extern "C" fn lsh_tally(list: &[u8]) -> Counts
     ensures { λ r. ⌜ r ≡ tallyCall (now (list .entry)) ⌝ }
 {
-    till::tally(list)
+    tally::tally(list)
 }

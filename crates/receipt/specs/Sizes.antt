@@ -2,7 +2,7 @@
 -- Assumes nothing.
 use Prim.Native.Nat.{ℕ, _+_, _*_}
 use Rattle.finalization.specs.Receipt.{receiptBytes}
-use Rattle.till.specs.Tally.{mostReceipts}
+use Rattle.tally.specs.Tally.{mostReceipts}
 
 -- where the digest begins in a receipt
 unfoldable pub digestPlace : ℕ

@@ -11,7 +11,7 @@ use libc::STDOUT_FILENO;
 use record::Record;
 
 // The bytes of the most receipts that a tally takes.
-const LIST: usize = till::MOST_RECEIPTS * RECEIPT;
+const LIST: usize = tally::MOST_RECEIPTS * RECEIPT;
 
 // The longest name of a file, for which io::buffer has room.
 const NAME: usize = 4096;
@@ -302,7 +302,7 @@ fn keep(list: &mut [u8], count: usize, made: Made) -> usize
         return count;
     }
     let after = std::num::wrapping_add_usize(count, 1);
-    if till::MOST_RECEIPTS <= count {
+    if tally::MOST_RECEIPTS <= count {
         return after;
     }
     let r = made.receipt;
@@ -530,12 +530,12 @@ fn letter(c: u8) -> u8 {
 fn tally(list: &[u8], count: usize)
     requires { ⌜ listBytes ≡ length (now list) ⌝ }
 {
-    if till::MOST_RECEIPTS < count {
+    if tally::MOST_RECEIPTS < count {
         io::write_all(STDERR_FILENO, b"receipt: --tally takes 960 files at most\n");
         return;
     }
     let end = RECEIPT * count;
-    let t = till::tally(&list[..end]);
+    let t = tally::tally(&list[..end]);
     print_counts(t.firsts, t.reprints);
 }
 

@@ -14,13 +14,13 @@ pub fn whole(v: [u64; WORDS], r: Record, given: &[u8], output: &mut [u8]) -> Rep
 
 // same BYTES BYTES
 pub fn same(v: [u64; WORDS], r: Record, given: &[u8]) -> Reply {
-    let s = till::same(words::part(given, 0, v[0]), words::part(given, v[0], v[1]));
+    let s = same::same(words::part(given, 0, v[0]), words::part(given, v[0], v[1]));
     reply::truth(s.number, s.same, r)
 }
 
 // tally BYTES: only 14 comes with the place of a malformed receipt.
 pub fn tally(v: [u64; WORDS], r: Record, given: &[u8]) -> Reply {
-    let t = till::tally(words::part(given, 0, v[0]));
+    let t = tally::tally(words::part(given, 0, v[0]));
     let number = t.number as u64;
     if number == 14 {
         return reply::numbers(4, [number, t.place, t.firsts, t.reprints], r);

@@ -1,7 +1,7 @@
 -- `bench_runs::bench_tally` meets its contract. Assumes nothing.
 use mathlib.Core.Path.{ap}
 use borrow.Author.Needs.{needs}
-use Rattle.till.specs.declared.Counts.{Counts}
+use Rattle.tally.specs.declared.Counts.{Counts}
 use Rattle.bench_runs.proofs.bench_tally.Statement.{statement}
 use Rattle.bench_runs.proofs.bench_tally.Tie as tie
 

@@ -1,0 +1,7 @@
+-- Laws of the receipts of a list.
+pub mod Places
+pub mod Malformed
+pub mod Sums
+pub mod Counting
+pub mod Answers
+pub mod Totals

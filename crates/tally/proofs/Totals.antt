@@ -1,0 +1,57 @@
+-- What the counts of Tally come to, and what the place of a refusal says.
+-- Assumes nothing.
+use mathlib.Core.Path.{_≡_, refl, _∙_}
+use mathlib.Core.Bool.{Bool, true, false, cond}
+use mathlib.Core.List.{List, []}
+use Prim.Native.Nat.{ℕ, _+_, _<_, zero-le}
+use native.Mathlib.Omega.{arith}
+use borrow.Author.Tests.{ltb-true}
+use lib.Dec.{ltb}
+use Rattle.finalization.specs.Receipt.{receiptBytes}
+use Rattle.same.specs.WellFormed.{wellFormed}
+use Rattle.tally.specs.declared.Counts.{Counts}
+use Rattle.tally.specs.Tally.{mostReceipts, receiptCount, receiptAt, receipts, firstMalformed, firsts, reprints, isBadLength, refusedTally, counted, tallyCall}
+use Rattle.tally.proofs.Malformed.{place-malformed, before-well-formed}
+use Rattle.tally.proofs.Counting.{all-counted, length-receipts}
+
+-- the answer by its two tests
+abbrev answer : Bool → Bool → ℕ → List (List ℕ) → Counts
+answer bad malformed place rs = cond bad (refusedTally 13 0) (cond malformed (refusedTally 14 place) (counted rs))
+
+module _ (s : List ℕ) where
+  abbrev place : ℕ
+  place = firstMalformed s 0 (receiptCount s)
+
+  abbrev rs : List (List ℕ)
+  rs = receipts s (receiptCount s)
+
+  -- firsts and reprints of an accepted tally are all receipts
+  pub tally-total : tallyCall s .number ≡ 0 → tallyCall s .firsts + tallyCall s .reprints ≡ receiptCount s
+  unfolding tallyCall refusedTally counted
+  tally-total taken = go (isBadLength s) (ltb place (receiptCount s)) taken
+    where
+      go : (bad malformed : Bool) → answer bad malformed place rs .number ≡ 0
+          → answer bad malformed place rs .firsts + answer bad malformed place rs .reprints ≡ receiptCount s
+      go false false is = all-counted rs ∙ length-receipts s (receiptCount s)
+      go false true is = absurd (omega arith)
+      go true malformed is = absurd (omega arith)
+
+  -- a tally that answers 14 gives the place of a malformed receipt before which each is well formed
+  pub tally-place : tallyCall s .number ≡ 14
+      → (tallyCall s .place < receiptCount s) × (wellFormed (receiptAt s (tallyCall s .place)) ≡ false)
+      × ((j : ℕ) → j < tallyCall s .place → wellFormed (receiptAt s j) ≡ true)
+  unfolding tallyCall refusedTally counted
+  tally-place said = go (isBadLength s) (ltb place (receiptCount s)) refl said
+    where
+      go : (bad malformed : Bool) → ltb place (receiptCount s) ≡ malformed → answer bad malformed place rs .number ≡ 14
+          → (answer bad malformed place rs .place < receiptCount s) × (wellFormed (receiptAt s (answer bad malformed place rs .place)) ≡ false)
+          × ((j : ℕ) → j < answer bad malformed place rs .place → wellFormed (receiptAt s j) ≡ true)
+      go false true is said =
+          let lt : place < receiptCount s = ltb-true place (receiptCount s) is in
+          (lt, place-malformed s 0 (receiptCount s) (omega arith), λ j h. before-well-formed s 0 (receiptCount s) j zero-le h)
+      go false false is said = absurd (omega arith)
+      go true malformed is said = absurd (omega arith)
+
+pub tally-empty : tallyCall [] ≡ record { number = 0; place = 0; firsts = 0; reprints = 0 }
+unfolding tallyCall isBadLength receiptCount receiptBytes mostReceipts receipts firstMalformed counted firsts reprints
+tally-empty = refl

@@ -1,0 +1,58 @@
+-- `tally::is_reprint` meets its contract: before each turn the receipt is the same as none of those from place j on. Assumes nothing.
+use mathlib.Core.Path.{_≡_, refl, sym, ap, ap₂, _∙_}
+use Prim.Native.Nat.{_-_, _≤_}
+use native.Mathlib.Omega.{arith}
+use lib.ListN.{length}
+use Rattle.equal.specs.Equal.{equal}
+use Rattle.tally.specs.Tally.{mostReceipts, receiptAt}
+use Rattle.tally.proofs.Places.{receipt-length, Left, found, not-found, none-left}
+use Rattle.tally.proofs.Sums.{sums-differ}
+use Rattle.tally.proofs.is_reprint.Statement.{statement}
+use Rattle.tally.proofs.is_reprint.Tie as tie
+
+abbrev Inv-loop : tie.InvT-loop
+Inv-loop list sums i sum j₀ j = (j ≤ i) × Left (receiptAt list i) list i j
+
+abbrev μ-loop : tie.MeasureT-loop
+μ-loop list sums i sum j₀ j = j
+
+-- the comparison of all bytes is that of the receipts
+compared : (c : tie.After-all-agree Inv-loop μ-loop)
+    → c .all-agree .result
+    ≡ equal (receiptAt (c .before .before .before .before .before .before .before .before .before .args .list .now) (c .before .before .before .before .before .before .before .before .before .args .i))
+    (receiptAt (c .before .before .before .before .before .before .before .before .before .args .list .now) (c .before .before .before .before .before .before .loop .j - 1))
+compared c = c .all-agree .ensures ∙ ap₂ equal (c .before .before .receipt-at .ensures) (c .before .receipt-at2 .ensures)
+
+pub is-reprint-spec : {M : Type 1} → statement M
+unfolding mostReceipts
+is-reprint-spec =
+    tie.close
+    (tie.spec
+    Inv-loop
+    μ-loop
+    (λ c. omega arith)
+    (λ c. omega arith)
+    (λ c. (omega arith, refl))
+    (λ c. omega arith)
+    (λ c. omega arith)
+    (λ c. omega arith)
+    (λ c κs. c .before .before .before .before .before .before .pre .1)
+    (λ c κs. omega arith)
+    (λ c κs.
+    let s = c .before .before .before .before .before .before .before .before in (
+      ap length (c .before .receipt-at .ensures) ∙ receipt-length _ _ (s .pre .1),
+      ap length (c .receipt-at2 .ensures) ∙ receipt-length (s .args .list .now) (c .before .before .before .before .before .loop .j - 1) (omega arith),
+    ))
+    (λ c.
+    let l = c .before .before .before .before .before .before .before in
+    found _ _ _ _ (l .loop .inv .1) (omega arith) (sym (compared (c .before)) ∙ c .if2 .taken))
+    (λ c. omega arith)
+    (λ c.
+    let l = c .before .before .before .before .before .before .before in
+    (omega arith, not-found _ _ _ _ (l .loop .inv .1) (omega arith) (sym (compared (c .before)) ∙ c .if2 .left)))
+    (λ c. omega arith)
+    (λ c.
+    let l = c .before .before .before in
+    let s = l .before .before .before in
+    (omega arith, not-found _ _ _ _ (l .loop .inv .1) (omega arith) (sums-differ _ _ (λ e. c .if1 .left (s .pre .2 _ (omega arith) ∙ sym e ∙ sym (s .pre .2 _ (omega arith)))))))
+    (λ c. none-left _ _ _ _ (c .before .loop .inv .1) (omega arith)))

@@ -1,4 +1,0 @@
-pub mod WellFormed
-pub mod Same
-pub mod Tally
-pub mod Checksum
