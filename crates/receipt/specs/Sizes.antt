@@ -4,10 +4,6 @@ use Prim.Native.Nat.{ℕ, _+_, _*_}
 use Rattle.finalization.specs.Receipt.{receiptBytes}
 use Rattle.tally.specs.Tally.{mostReceipts}
 
--- where the digest begins in a receipt
-unfoldable pub digestPlace : ℕ
-digestPlace = 4
-
 -- the most receipts that a tally takes, end to end
 unfoldable pub listBytes : ℕ
 listBytes = mostReceipts * receiptBytes

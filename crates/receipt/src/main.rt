@@ -2,8 +2,9 @@
 ghost use mathlib.Core.Path.{_≡_};
 ghost use Prim.Native.Nat.{_+_, _*_, _≤_};
 ghost use lib.ListN.{length};
-ghost use Rattle.finalization.specs.Receipt.{receiptBytes};
-ghost use Rattle.receipt.specs.Sizes.{digestPlace, listBytes, nameBytes, lineBytes};
+ghost use Rattle.finalization.specs.Receipt.{receiptBytes, digestPlace};
+ghost use Rattle.receipt.specs.Sizes.{listBytes, nameBytes, lineBytes};
+use finalization::DIGEST;
 use finalization::RECEIPT;
 use libc::STDERR_FILENO;
 use libc::STDIN_FILENO;
@@ -18,9 +19,6 @@ const NAME: usize = 4096;
 
 // Room for the longest line that is printed (lineBytes in specs/Sizes.antt).
 const LINE: usize = 1 + (2 * RECEIPT + 1) + 2 + 2 * NAME + 1;
-
-// The place of the digest in a receipt.
-const DIGEST: usize = 4;
 
 // What the options ask for, and the first argument after them.
 struct Asked {
@@ -88,15 +86,12 @@ fn list_buffer() -> [u8; LIST]
     [0; LIST]
 }
 
-// The longest digest of a word size has 8w bits. Word sizes are 32 and 64 here.
+// The digest length that is asked for.
 fn digest_length(w: u64, n: u64) -> u64 {
     if n != 0 {
         return n;
     }
-    if w == 64 {
-        return 512;
-    }
-    256
+    runs::longest_digest(w)
 }
 
 // Reads the options. An argument that does not begin with a dash, or is a dash alone, ends them, and so does --.
@@ -431,8 +426,7 @@ fn print_receipt(digest: bool, n: u64, receipt: [u8; RECEIPT], name: &[u8]) -> b
 fn digest_end(n: u64) -> usize
     ensures { λ r. ⌜ (digestPlace ≤ r) × (r ≤ receiptBytes) ⌝ }
 {
-    let most = 8 * (RECEIPT - DIGEST) as u64;
-    if most < n {
+    if runs::longest_digest(64) < n {
         return RECEIPT;
     }
     let bytes = (n + 7) / 8;

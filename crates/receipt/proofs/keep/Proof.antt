@@ -4,7 +4,7 @@ use native.Mathlib.Omega.{arith}
 use lib.ListN.{length}
 use borrow.Author.Needs.{needs}
 use Rattle.finalization.specs.Receipt.{receiptBytes}
-use Rattle.till.specs.Tally.{mostReceipts}
+use Rattle.tally.specs.Tally.{mostReceipts}
 use Rattle.receipt.specs.Sizes.{listBytes}
 use Rattle.receipt.proofs.keep.Statement.{statement}
 use Rattle.receipt.proofs.keep.Tie as tie

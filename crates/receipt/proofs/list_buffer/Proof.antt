@@ -3,7 +3,7 @@ use mathlib.Core.Path.{sym}
 use Prim.Native.Nat.{ℕ}
 use lib.ListN.{length-replicate}
 use Rattle.finalization.specs.Receipt.{receiptBytes}
-use Rattle.till.specs.Tally.{mostReceipts}
+use Rattle.tally.specs.Tally.{mostReceipts}
 use Rattle.receipt.specs.Sizes.{listBytes}
 use Rattle.receipt.proofs.list_buffer.Statement.{statement}
 use Rattle.receipt.proofs.list_buffer.Tie as tie

@@ -2,12 +2,11 @@
 use native.Mathlib.Omega.{arith}
 use borrow.Author.Needs.{needs}
 use Rattle.finalization.specs.Receipt.{receiptBytes}
-use Rattle.receipt.specs.Sizes.{digestPlace}
 use Rattle.receipt.proofs.print_receipt.Statement.{statement}
 use Rattle.receipt.proofs.print_receipt.Tie as tie
 
 pub print-receipt-spec : {M : Type 1} → statement M
-unfolding digestPlace receiptBytes
+unfolding receiptBytes
 print-receipt-spec =
     tie.close
     (tie.spec
