@@ -4,6 +4,8 @@ use crate::reply::Reply;
 use crate::words;
 use crate::words::WORDS;
 use record::Record;
+use runs::LONGEST_BLOCK;
+use script::WIDE_CHAIN;
 
 // open W N
 pub fn open(v: [u64; WORDS]) -> Reply {
@@ -38,10 +40,10 @@ pub fn shown(r: Record) -> Reply {
 pub fn set(v: [u64; WORDS], r: Record, given: &[u8]) -> Reply {
     let bytes = words::part(given, 0, v[3]);
     let held = words::part(given, v[3], v[4]);
-    if bytes.len() != 128 {
+    if bytes.len() != WIDE_CHAIN {
         return reply::plain(reply::NOT_A_CALL, r);
     }
-    if held.len() != 256 {
+    if held.len() != LONGEST_BLOCK {
         return reply::plain(reply::NOT_A_CALL, r);
     }
     let chain = script::chain_of(bytes);

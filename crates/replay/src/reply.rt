@@ -7,6 +7,8 @@ use crate::words;
 use libc::STDERR_FILENO;
 use libc::STDOUT_FILENO;
 use record::Record;
+use runs::LONGEST_BLOCK;
+use script::WIDE_CHAIN;
 
 // What comes behind the name of a line and its numbers: nothing, yes, no, the output, or the words of the record.
 pub const NAME: u32 = 0;
@@ -224,16 +226,16 @@ fn put_chain(line: &mut [u8], from: usize, chain: [u64; 16]) -> usize
 }
 
 // The bytes of a chain's words, the highest first.
-fn chain_bytes(chain: [u64; 16]) -> [u8; 128] {
+fn chain_bytes(chain: [u64; 16]) -> [u8; WIDE_CHAIN] {
     let t = chain;
-    let mut r = [0u8; 128];
-    for i in 0..128usize {
+    let mut r = [0u8; WIDE_CHAIN];
+    for i in 0..WIDE_CHAIN {
         r[i] = word64::byte(t[i / 8], (7 - i % 8) as u32);
     }
     r
 }
 
-fn put_held(line: &mut [u8], from: usize, held: [u8; 256]) -> usize
+fn put_held(line: &mut [u8], from: usize, held: [u8; LONGEST_BLOCK]) -> usize
     requires { ⌜ from + 514 ≤ length (now line) ⌝ }
     ensures { λ r. ⌜ r ≤ from + 514 ⌝ }
 {

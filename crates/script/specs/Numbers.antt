@@ -32,6 +32,10 @@ noNumber = record { is = false; value = 0 }
 unfoldable pub wordNumber : List ℕ → Number
 wordNumber s = cond (isNumber s) (record { is = true; value = valueAfter 0 s }) noNumber
 
+-- WIDE_CHAIN: the bytes of a chain in a script
+abbrev pub wideChain : ℕ
+wideChain = 16 * 8
+
 -- the number of the k bytes from place a on, the highest first
 unfoldable pub highestFirst : ℕ → List ℕ → ℕ → ℕ
 highestFirst zero s a = 0

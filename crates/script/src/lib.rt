@@ -6,8 +6,11 @@ ghost use lib.ListN.{length, take, drop};
 ghost use lib.Seq.{sets};
 ghost use Rattle.lsh.specs.Tabulate.{tabulate};
 ghost use Rattle.script.specs.Words.{before, spaces, afterSpaces, wordAt, placeOf};
-ghost use Rattle.script.specs.Numbers.{isDigit, noNumber, wordNumber, highestFirst};
+ghost use Rattle.script.specs.Numbers.{isDigit, noNumber, wordNumber, wideChain, highestFirst};
 ghost use Rattle.script.specs.Hex.{isHexDigit, allHex, hexValue, byteOf, isDash, isHexBytes, noLength, wordLength, written};
+
+// The bytes of a chain in a script, where each of the 16 words has eight at either word size.
+pub const WIDE_CHAIN: usize = 16 * 8;
 
 // The number that a word says, if it is one.
 pub struct Number {
@@ -232,7 +235,7 @@ fn decode_byte(word: &[u8], i: usize) -> u8
 
 // The words of a chain, each of eight bytes, the highest first.
 pub fn chain_of(bytes: &[u8]) -> [u64; 16]
-    requires { ⌜ length (now bytes) ≡ 128 ⌝ }
+    requires { ⌜ length (now bytes) ≡ wideChain ⌝ }
     ensures { λ r. ⌜ r ≡ tabulate 16 (λ l. highestFirst 8 (now (bytes .entry)) (8 * l)) ⌝ }
 {
     let mut chain = [0u64; 16];
