@@ -1,6 +1,6 @@
 //! The implementations that are timed against each other.
 
-use compare::{block_backward, block_forward, whole, ACCEPTED, RECEIPT_BYTES};
+use compare::{append, block_backward, block_forward, open, rewind, tally, whole, Record, ACCEPTED, RECEIPT_BYTES};
 use lsh_ref::Word;
 
 pub const MODULE: &str = "this module";
@@ -33,9 +33,6 @@ mod module {
         pub fn bench_backward256(chain: *mut u8, chain_len: usize, blocks: *const u8, blocks_len: usize) -> u32;
         pub fn bench_forward512(chain: *mut u8, chain_len: usize, blocks: *const u8, blocks_len: usize) -> u32;
         pub fn bench_backward512(chain: *mut u8, chain_len: usize, blocks: *const u8, blocks_len: usize) -> u32;
-        pub fn bench_append(w: u64, n: u64, piece: *const u8, piece_len: usize) -> u64;
-        pub fn bench_rewind(w: u64, total: u64, h: *const u8, h_len: usize) -> u64;
-        pub fn bench_tally(list: *const u8, list_len: usize) -> u64;
     }
 }
 
@@ -85,22 +82,21 @@ pub fn reference_backward<W: Word>(chain: &mut [u8], input: &[u8]) {
 
 /// Word 0 of the chain of a new record after an Append of the input.
 pub fn module_append<W: Word>(input: &[u8]) -> u64 {
-    // SAFETY: the pointer comes with the length of its slice.
-    unsafe { module::bench_append(W::BITS as u64, digest_bits::<W>(), input.as_ptr(), input.len()) }
+    let opened = open(W::BITS as u64, digest_bits::<W>()).next;
+    append(opened, input).next.chain[0]
 }
 
 /// Word 0 of the chain of a record after a Rewind of the input. The record has a chain of zeros and one block before
 /// the input, so that any chain reached is taken.
 pub fn module_rewind<W: Word>(input: &[u8]) -> u64 {
     let total = (W::BLOCK_BYTES + input.len()) as u64;
-    // SAFETY: the pointer comes with the length of its slice.
-    unsafe { module::bench_rewind(W::BITS as u64, total, input.as_ptr(), input.len()) }
+    let record = Record { w: W::BITS as u64, n: digest_bits::<W>(), total, chain: [0; 16], held: [0; 256] };
+    rewind(record, 0, input).next.chain[0]
 }
 
 /// How many of the receipts are firsts.
 pub fn module_tally(receipts: &[u8]) -> u64 {
-    // SAFETY: the pointer comes with the length of its slice.
-    unsafe { module::bench_tally(receipts.as_ptr(), receipts.len()) }
+    tally(receipts).firsts
 }
 
 /// Writes the digest of a whole message where a receipt has it. A buffer is lent because the module and Crypto++ need
