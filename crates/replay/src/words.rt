@@ -149,7 +149,7 @@ fn no_value() -> Number {
 
 fn last(word: &[u8]) -> Number {
     let mut byte = [0u8; 1];
-    let n = script::read_bytes(word, &mut byte);
+    let n = hex::read_bytes(word, &mut byte);
     Number {
         is: n.count == 1,
         value: wide(byte[0]),
@@ -172,7 +172,7 @@ fn size(word: &[u8], output: &mut [u8]) -> Number {
 
 fn bytes(word: &[u8], used: u64, given: &mut [u8]) -> Number {
     let from = fitting(used, given);
-    let n = script::read_bytes(word, &mut given[from..]);
+    let n = hex::read_bytes(word, &mut given[from..]);
     Number {
         is: n.is,
         value: (from + n.count) as u64,
@@ -180,7 +180,7 @@ fn bytes(word: &[u8], used: u64, given: &mut [u8]) -> Number {
 }
 
 fn lent(word: &[u8], output: &mut [u8]) -> Number {
-    let n = script::read_bytes(word, output);
+    let n = hex::read_bytes(word, output);
     Number {
         is: n.is,
         value: n.count as u64,

@@ -3,14 +3,11 @@
 use mathlib.Core.Bool.{Bool, true, false, not, _&&_, cond}
 use mathlib.Core.List.{List, [], _∷_}
 use Prim.Native.Nat.{ℕ, zero, suc, _+_, _-_, _*_, _^_}
-use lib.Dec.{eqb, ltb, leb}
+use lib.Dec.{eqb, ltb}
 use lib.ListN.{length}
 use Rattle.lsh.specs.Tabulate.{at}
+use Rattle.hex.specs.Hex.{isDigit}
 use Rattle.script.specs.declared.Number.{Number}
-
--- 0 to 9
-abbrev pub isDigit : ℕ → Bool
-isDigit c = leb 48 c && leb c 57
 
 abbrev pub allDigits : List ℕ → Bool
 allDigits [] = true

@@ -2,7 +2,7 @@
 use mathlib.Core.Path.{refl}
 use native.Mathlib.Omega.{arith}
 use borrow.Author.Needs.{needs}
-use Rattle.script.proofs.Reading.{digit-low, digit-high}
+use Rattle.hex.proofs.Digits.{digit-low, digit-high}
 use Rattle.script.proofs.digit_value.Statement.{statement}
 use Rattle.script.proofs.digit_value.Tie as tie
 

@@ -1,9 +1,9 @@
--- `script::is_dash` meets its contract. Assumes nothing.
+-- `hex::is_dash` meets its contract. Assumes nothing.
 use borrow.Author.Needs.{needs}
 use borrow.Author.Tests.{eq-eqb, ne-eqb}
-use Rattle.script.specs.Hex.{isDash}
-use Rattle.script.proofs.is_dash.Statement.{statement}
-use Rattle.script.proofs.is_dash.Tie as tie
+use Rattle.hex.specs.Hex.{isDash}
+use Rattle.hex.proofs.is_dash.Statement.{statement}
+use Rattle.hex.proofs.is_dash.Tie as tie
 
 pub is-dash-spec : {M : Type 1} → statement M
 unfolding isDash

@@ -1,9 +1,9 @@
--- `script::is_hex_digit` meets its contract. Assumes nothing.
+-- `hex::is_hex_digit` meets its contract. Assumes nothing.
 use borrow.Author.Needs.{needs}
 use borrow.Author.Tests.{lt-ltb, le-ltb}
-use Rattle.script.specs.Hex.{isHexDigit}
-use Rattle.script.proofs.is_hex_digit.Statement.{statement}
-use Rattle.script.proofs.is_hex_digit.Tie as tie
+use Rattle.hex.specs.Hex.{isHexDigit}
+use Rattle.hex.proofs.is_hex_digit.Statement.{statement}
+use Rattle.hex.proofs.is_hex_digit.Tie as tie
 
 pub is-hex-digit-spec : {M : Type 1} → statement M
 unfolding isHexDigit

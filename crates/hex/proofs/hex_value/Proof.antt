@@ -1,11 +1,11 @@
--- `script::hex_value` meets its contract. Assumes nothing.
+-- `hex::hex_value` meets its contract. Assumes nothing.
 use native.Mathlib.Omega.{arith}
 use borrow.Author.Needs.{needs}
 use borrow.Author.Tests.{lt-ltb, le-ltb}
-use Rattle.script.specs.Hex.{hexValue}
-use Rattle.script.proofs.Reading.{digit-low, digit-high, hex-decimal, hex-letter}
-use Rattle.script.proofs.hex_value.Statement.{statement}
-use Rattle.script.proofs.hex_value.Tie as tie
+use Rattle.hex.specs.Hex.{hexValue}
+use Rattle.hex.proofs.Digits.{digit-low, digit-high, hex-decimal, hex-letter}
+use Rattle.hex.proofs.hex_value.Statement.{statement}
+use Rattle.hex.proofs.hex_value.Tie as tie
 
 pub hex-value-spec : {M : Type 1} → statement M
 unfolding hexValue

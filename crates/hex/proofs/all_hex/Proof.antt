@@ -1,14 +1,14 @@
--- `script::all_hex` meets its contract: before turn i all bytes passed are hexadecimal digits. Assumes nothing.
+-- `hex::all_hex` meets its contract: before turn i all bytes passed are hexadecimal digits. Assumes nothing.
 use mathlib.Core.Path.{_≡_, refl, sym, _∙_}
 use Prim.Native.Nat.{_-_, _≤_, zero-le}
 use native.Mathlib.Omega.{arith}
 use lib.ListN.{length, drop}
 use borrow.Author.Needs.{needs}
 use borrow.Author.Tests.{not-true, not-false}
-use Rattle.script.specs.Hex.{allHex}
-use Rattle.script.proofs.Reading.{hex-other, hex-more, hex-all}
-use Rattle.script.proofs.all_hex.Statement.{statement}
-use Rattle.script.proofs.all_hex.Tie as tie
+use Rattle.hex.specs.Hex.{allHex}
+use Rattle.hex.proofs.Digits.{hex-other, hex-more, hex-all}
+use Rattle.hex.proofs.all_hex.Statement.{statement}
+use Rattle.hex.proofs.all_hex.Tie as tie
 
 abbrev Inv-loop : tie.InvT-loop
 Inv-loop s i₀ i = (i ≤ length s) × (allHex s ≡ allHex (drop i s))

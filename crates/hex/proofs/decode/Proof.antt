@@ -1,11 +1,11 @@
--- `script::decode` meets its contract: before turn i the first i bytes are written. Assumes nothing.
+-- `hex::decode` meets its contract: before turn i the first i bytes are written. Assumes nothing.
 use Prim.Native.Nat.{_-_}
 use native.Mathlib.Omega.{arith}
 use borrow.Author.Needs.{needs}
 use Rattle.engine.proofs.Places.{Placed, placed-none, filled-more, stored-front}
-use Rattle.script.specs.Hex.{byteOf}
-use Rattle.script.proofs.decode.Statement.{statement}
-use Rattle.script.proofs.decode.Tie as tie
+use Rattle.hex.specs.Hex.{byteOf}
+use Rattle.hex.proofs.decode.Statement.{statement}
+use Rattle.hex.proofs.decode.Tie as tie
 
 abbrev Inv-loop : tie.InvT-loop
 Inv-loop word output₀ n i₀ output i = Placed n (λ k. k) (byteOf word) output₀ output i

@@ -1,11 +1,11 @@
--- `script::read_bytes` meets its contract. Assumes nothing.
+-- `hex::read_bytes` meets its contract. Assumes nothing.
 use mathlib.Core.Path.{sym, _∙_}
 use Prim.Native.Nat.{zero-le}
 use borrow.Author.Tests.{not-true, not-false}
 use borrow.Author.Needs.{needs}
-use Rattle.script.proofs.Reading.{all-hex-of, dash-length, dash-written, other-length, other-written, short-length, short-written, some-length, some-written}
-use Rattle.script.proofs.read_bytes.Statement.{statement}
-use Rattle.script.proofs.read_bytes.Tie as tie
+use Rattle.hex.proofs.Digits.{all-hex-of, dash-length, dash-written, other-length, other-written, short-length, short-written, some-length, some-written}
+use Rattle.hex.proofs.read_bytes.Statement.{statement}
+use Rattle.hex.proofs.read_bytes.Tie as tie
 
 pub read-bytes-spec : {M : Type 1} → statement M
 read-bytes-spec =

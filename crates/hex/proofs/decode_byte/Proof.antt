@@ -1,12 +1,12 @@
--- `script::decode_byte` meets its contract. Assumes nothing.
+-- `hex::decode_byte` meets its contract. Assumes nothing.
 use mathlib.Core.Path.{ap₂}
 use Prim.Native.Nat.{ℕ, _+_, _*_}
 use native.Mathlib.Omega.{arith}
 use borrow.Author.Needs.{needs}
-use Rattle.script.specs.Hex.{byteOf}
-use Rattle.script.proofs.Reading.{hex-at}
-use Rattle.script.proofs.decode_byte.Statement.{statement}
-use Rattle.script.proofs.decode_byte.Tie as tie
+use Rattle.hex.specs.Hex.{byteOf}
+use Rattle.hex.proofs.Digits.{hex-at}
+use Rattle.hex.proofs.decode_byte.Statement.{statement}
+use Rattle.hex.proofs.decode_byte.Tie as tie
 
 pub decode-byte-spec : {M : Type 1} → statement M
 unfolding byteOf

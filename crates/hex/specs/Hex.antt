@@ -7,8 +7,11 @@ use lib.Dec.{eqb, ltb, leb}
 use lib.ListN.{length}
 use lib.Seq.{sets}
 use Rattle.lsh.specs.Tabulate.{at, tabulate}
-use Rattle.script.specs.declared.Length.{Length}
-use Rattle.script.specs.Numbers.{isDigit}
+use Rattle.hex.specs.declared.Length.{Length}
+
+-- 0 to 9
+abbrev pub isDigit : ℕ → Bool
+isDigit c = leb 48 c && leb c 57
 
 -- 0 to 9 or a to f
 unfoldable pub isHexDigit : ℕ → Bool

@@ -1,9 +1,9 @@
--- `script::is_hex_bytes` meets its contract. Assumes nothing.
+-- `hex::is_hex_bytes` meets its contract. Assumes nothing.
 use borrow.Author.Needs.{needs}
 use borrow.Author.Tests.{eq-eqb, ne-eqb}
-use Rattle.script.specs.Hex.{isHexBytes}
-use Rattle.script.proofs.is_hex_bytes.Statement.{statement}
-use Rattle.script.proofs.is_hex_bytes.Tie as tie
+use Rattle.hex.specs.Hex.{isHexBytes}
+use Rattle.hex.proofs.is_hex_bytes.Statement.{statement}
+use Rattle.hex.proofs.is_hex_bytes.Tie as tie
 
 pub is-hex-bytes-spec : {M : Type 1} → statement M
 unfolding isHexBytes
