@@ -1,4 +1,5 @@
--- The sizes of the program's buffers, each named once; the code's constants have the same names in capitals.
+-- The sizes of the program's buffers, and of what it prints. The constants of src/main.rt and src/reply.rt have the same figures, and the `ensures` of
+-- the functions that make the buffers tie the two.
 -- Assumes nothing.
 use Prim.Native.Nat.{ℕ, _+_, _*_}
 
@@ -10,6 +11,11 @@ lineBytes = 262144
 abbrev pub stringBytes : ℕ
 stringBytes = 131072
 
--- ROOM: the bytes of the line buffer. What a line prints stands behind the line's name, and is at most a number, spaces and the digits of BYTES bytes
+-- DIGITS: the most digits of a number of 64 bits
+abbrev pub digits : ℕ
+digits = 20
+
+-- ROOM: the bytes of the line buffer. What a line prints stands behind the line's name: four numbers at most, and then the digits of BYTES bytes at
+-- most, or those of a chain and of the held bytes
 abbrev pub roomBytes : ℕ
 roomBytes = 2 * lineBytes + 1024

@@ -1,7 +1,9 @@
 // What a line prints.
-ghost use Prim.Native.Nat.{_+_, _<_, _≤_};
+ghost use Prim.Native.Nat.{_+_, _*_, _<_, _≤_};
 ghost use lib.ListN.{length};
-ghost use Rattle.replay.specs.Sizes.{lineBytes, stringBytes, roomBytes};
+ghost use Rattle.runs.specs.Limits.{longestBlock};
+ghost use Rattle.script.specs.Numbers.{wideChain};
+ghost use Rattle.replay.specs.Sizes.{lineBytes, stringBytes, digits, roomBytes};
 use crate::LINE;
 use crate::words;
 use libc::STDERR_FILENO;
@@ -9,6 +11,9 @@ use libc::STDOUT_FILENO;
 use record::Record;
 use runs::LONGEST_BLOCK;
 use script::WIDE_CHAIN;
+
+// The most digits of a number.
+const DIGITS: usize = 20;
 
 // What comes behind the name of a line and its numbers: nothing, yes, no, the output, or the words of the record.
 pub const NAME: u32 = 0;
@@ -144,8 +149,8 @@ fn put_reply(n: usize, line: &mut [u8], c: Reply, output: &[u8]) -> usize
 
 // The first count of the numbers, a space before each.
 fn put_numbers(line: &mut [u8], from: usize, count: usize, numbers: [u64; 4]) -> usize
-    requires { ⌜ from + 84 ≤ length (now line) ⌝ }
-    ensures { λ r. ⌜ r ≤ from + 84 ⌝ }
+    requires { ⌜ from + 4 * (1 + digits) ≤ length (now line) ⌝ }
+    ensures { λ r. ⌜ r ≤ from + 4 * (1 + digits) ⌝ }
 {
     let x = numbers;
     let n = words::least(count, 4);
@@ -157,25 +162,25 @@ fn put_numbers(line: &mut [u8], from: usize, count: usize, numbers: [u64; 4]) ->
 }
 
 fn put_next(line: &mut [u8], from: usize, x: u64) -> usize
-    requires { ⌜ from + 21 ≤ length (now line) ⌝ }
-    ensures { λ r. ⌜ r ≤ from + 21 ⌝ }
+    requires { ⌜ from + 1 + digits ≤ length (now line) ⌝ }
+    ensures { λ r. ⌜ r ≤ from + 1 + digits ⌝ }
 {
     let a = text::put(line, from, b" ");
     put_number(line, a, x)
 }
 
 fn put_number(line: &mut [u8], from: usize, x: u64) -> usize
-    requires { ⌜ from + 20 ≤ length (now line) ⌝ }
-    ensures { λ r. ⌜ r ≤ from + 20 ⌝ }
+    requires { ⌜ from + digits ≤ length (now line) ⌝ }
+    ensures { λ r. ⌜ r ≤ from + digits ⌝ }
 {
-    let mut digits = [0u8; 20];
-    let k = io::decimal(x, &mut digits);
-    text::put(line, from, &digits[..k])
+    let mut number = [0u8; DIGITS];
+    let k = io::decimal(x, &mut number);
+    text::put(line, from, &number[..k])
 }
 
 // What comes behind the numbers.
 fn put_rest(line: &mut [u8], from: usize, c: Reply, output: &[u8]) -> usize
-    requires { ⌜ (roomBytes ≤ length (now line)) × (from ≤ lineBytes + 84) × (length (now output) ≤ stringBytes) ⌝ }
+    requires { ⌜ (roomBytes ≤ length (now line)) × (from ≤ lineBytes + 4 * (1 + digits)) × (length (now output) ≤ stringBytes) ⌝ }
     ensures { λ r. ⌜ r < roomBytes ⌝ }
 {
     let what = c.what;
@@ -189,7 +194,7 @@ fn put_rest(line: &mut [u8], from: usize, c: Reply, output: &[u8]) -> usize
 }
 
 fn put_output(line: &mut [u8], from: usize, size: u64, output: &[u8]) -> usize
-    requires { ⌜ (roomBytes ≤ length (now line)) × (from ≤ lineBytes + 84) × (length (now output) ≤ stringBytes) ⌝ }
+    requires { ⌜ (roomBytes ≤ length (now line)) × (from ≤ lineBytes + 4 * (1 + digits)) × (length (now output) ≤ stringBytes) ⌝ }
     ensures { λ r. ⌜ r < roomBytes ⌝ }
 {
     let n = words::fitting(size, output);
@@ -198,8 +203,8 @@ fn put_output(line: &mut [u8], from: usize, size: u64, output: &[u8]) -> usize
 
 // A space and bytes.
 fn put_bytes(line: &mut [u8], from: usize, s: &[u8]) -> usize
-    requires { ⌜ from + 2 + length (now s) + length (now s) ≤ length (now line) ⌝ }
-    ensures { λ r. ⌜ r ≤ from + 2 + length (now (s .entry)) + length (now (s .entry)) ⌝ }
+    requires { ⌜ from + 2 + 2 * length (now s) ≤ length (now line) ⌝ }
+    ensures { λ r. ⌜ r ≤ from + 2 + 2 * length (now (s .entry)) ⌝ }
 {
     let a = text::put(line, from, b" ");
     text::put_bytes(line, a, s)
@@ -207,7 +212,7 @@ fn put_bytes(line: &mut [u8], from: usize, s: &[u8]) -> usize
 
 // The chain and the held bytes of the record.
 fn put_record(line: &mut [u8], from: usize, r: Record) -> usize
-    requires { ⌜ (roomBytes ≤ length (now line)) × (from ≤ lineBytes + 84) ⌝ }
+    requires { ⌜ (roomBytes ≤ length (now line)) × (from ≤ lineBytes + 4 * (1 + digits)) ⌝ }
     ensures { λ e. ⌜ e < roomBytes ⌝ }
 {
     let chain = r.chain;
@@ -218,8 +223,8 @@ fn put_record(line: &mut [u8], from: usize, r: Record) -> usize
 
 // A space and the words of a chain, sixteen digits each.
 fn put_chain(line: &mut [u8], from: usize, chain: [u64; 16]) -> usize
-    requires { ⌜ from + 258 ≤ length (now line) ⌝ }
-    ensures { λ r. ⌜ r ≤ from + 258 ⌝ }
+    requires { ⌜ from + 2 + 2 * wideChain ≤ length (now line) ⌝ }
+    ensures { λ r. ⌜ r ≤ from + 2 + 2 * wideChain ⌝ }
 {
     let s = chain_bytes(chain);
     put_bytes(line, from, &s)
@@ -236,8 +241,8 @@ fn chain_bytes(chain: [u64; 16]) -> [u8; WIDE_CHAIN] {
 }
 
 fn put_held(line: &mut [u8], from: usize, held: [u8; LONGEST_BLOCK]) -> usize
-    requires { ⌜ from + 514 ≤ length (now line) ⌝ }
-    ensures { λ r. ⌜ r ≤ from + 514 ⌝ }
+    requires { ⌜ from + 2 + 2 * longestBlock ≤ length (now line) ⌝ }
+    ensures { λ r. ⌜ r ≤ from + 2 + 2 * longestBlock ⌝ }
 {
     put_bytes(line, from, &held)
 }
