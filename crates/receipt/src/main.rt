@@ -114,17 +114,20 @@ fn options() -> Asked {
 }
 
 // Reads the argument after those read before, if there is one and it is an option.
-fn option(a: Asked) -> Asked {
+fn option(mut a: Asked) -> Asked {
     let mut text = io::buffer();
     let n = os::arg(a.first, &mut text);
     if os::errno() != 0 {
-        return end_options(a, a.first);
+        a.more = false;
+        return a;
     }
     let name = &text[..n];
     if !is_option(name) {
-        return end_options(a, a.first);
+        a.more = false;
+        return a;
     }
-    named(a, name, std::num::wrapping_add_usize(a.first, 1))
+    a.first = std::num::wrapping_add_usize(a.first, 1);
+    named(a, name)
 }
 
 // Whether an argument begins with a dash and is longer.
@@ -135,23 +138,24 @@ fn is_option(text: &[u8]) -> bool {
     text[0] == b'-'
 }
 
-// The option of a name, after which the argument next comes.
-fn named(a: Asked, name: &[u8], next: usize) -> Asked {
+// The option of a name.
+fn named(mut a: Asked, name: &[u8]) -> Asked {
     let option = script::place(b"-- --digest --tally -w -n -h --help", name);
     match option {
-        0 => end_options(a, next),
-        1 => with_flags(a, next, true, a.tally),
-        2 => with_flags(a, next, a.digest, true),
-        3 => word_size(a, name, next),
-        4 => bits(a, name, next),
-        5 | 6 => help(a),
-        _ => no_option(a, name),
+        0 => a.more = false,
+        1 => a.digest = true,
+        2 => a.tally = true,
+        3 => a = word_size(a, name),
+        4 => a = bits(a, name),
+        5 | 6 => a = help(a),
+        _ => a = no_option(a, name),
     }
+    a
 }
 
-// The option -w, whose value stands at a place.
-fn word_size(a: Asked, option: &[u8], at: usize) -> Asked {
-    let w = number(option, at);
+// The option -w, and its value after it.
+fn word_size(mut a: Asked, option: &[u8]) -> Asked {
+    let w = number(option, a.first);
     if !w.is {
         return without_files(a);
     }
@@ -159,12 +163,14 @@ fn word_size(a: Asked, option: &[u8], at: usize) -> Asked {
         number_wrong(option, w.value, b": the word size is 32 or 64\n");
         return without_files(a);
     }
-    with_sizes(a, at, w.value, a.n)
+    a.w = w.value;
+    a.first = std::num::wrapping_add_usize(a.first, 1);
+    a
 }
 
 // The option -n likewise. Whether its value suits the word size is known after all options.
-fn bits(a: Asked, option: &[u8], at: usize) -> Asked {
-    let n = number(option, at);
+fn bits(mut a: Asked, option: &[u8]) -> Asked {
+    let n = number(option, a.first);
     if !n.is {
         return without_files(a);
     }
@@ -175,7 +181,9 @@ fn bits(a: Asked, option: &[u8], at: usize) -> Asked {
         );
         return without_files(a);
     }
-    with_sizes(a, at, a.w, n.value)
+    a.n = n.value;
+    a.first = std::num::wrapping_add_usize(a.first, 1);
+    a
 }
 
 // The argument after an option as a number; says what is wrong if it is none. One that is missing is read as an empty one.
@@ -197,27 +205,6 @@ fn not_a_number(option: &[u8], missing: bool, value: &[u8]) {
         return;
     }
     value_wrong(option, value, b": this is no number, or is too large\n");
-}
-
-fn end_options(mut a: Asked, first: usize) -> Asked {
-    a.first = first;
-    a.more = false;
-    a
-}
-
-fn with_flags(mut a: Asked, first: usize, digest: bool, tally: bool) -> Asked {
-    a.digest = digest;
-    a.tally = tally;
-    a.first = first;
-    a
-}
-
-// After an option and its value, which stands at a place.
-fn with_sizes(mut a: Asked, at: usize, w: u64, n: u64) -> Asked {
-    a.w = w;
-    a.n = n;
-    a.first = std::num::wrapping_add_usize(at, 1);
-    a
 }
 
 fn without_files(mut a: Asked) -> Asked {
