@@ -26,7 +26,7 @@ const OUTPUT: u32 = 3;
 
 const RECORD: u32 = 4;
 
-// A line that prints nothing, and those that are no call.
+// A line that prints nothing, and, from TOO_LONG on, those that are no call.
 pub const NOTHING: u32 = 5;
 
 pub const TOO_LONG: u32 = 6;
@@ -89,14 +89,16 @@ pub fn record(r: Record) -> Reply {
     reply_of(RECORD, 3, [r.w, r.n, r.total, 0], 0, r)
 }
 
-// Prints what line k prints, which has n bytes and stands in line. Answers whether that went well.
+// Prints what line k prints, which has n bytes and stands in the buffer: behind its name, or behind its number if it is no call. Answers whether that
+// went well.
 pub fn print(n: usize, line: &mut [u8], k: u64, c: Reply, output: &[u8]) -> bool
     requires { ⌜ (roomBytes ≤ length (now line)) × (length (now output) ≤ stringBytes) ⌝ }
 {
     if c.what == NOTHING {
         return true;
     }
-    let end = put_line(n, line, k, c, output);
+    let at = put_front(n, line, k, c);
+    let end = put_rest(line, at, c, output);
     write(line, end)
 }
 
@@ -112,39 +114,19 @@ fn write(line: &mut [u8], n: usize) -> bool
     false
 }
 
-// Puts what is printed into line, and returns the place after it, as the following do.
-fn put_line(n: usize, line: &mut [u8], k: u64, c: Reply, output: &[u8]) -> usize
-    requires { ⌜ (roomBytes ≤ length (now line)) × (length (now output) ≤ stringBytes) ⌝ }
-    ensures { λ r. ⌜ r < roomBytes ⌝ }
+// Puts the front of what is printed into the buffer, and returns the place after it, as the following do.
+fn put_front(n: usize, line: &mut [u8], k: u64, c: Reply) -> usize
+    requires { ⌜ roomBytes ≤ length (now line) ⌝ }
+    ensures { λ r. ⌜ r ≤ lineBytes + 4 * (1 + digits) ⌝ }
 {
-    let what = c.what;
-    match what {
-        TOO_LONG => put_fault(line, k, b": too long"),
-        NOT_A_CALL => put_fault(line, k, b": not a call"),
-        _ => put_reply(n, line, c, output),
+    if TOO_LONG <= c.what {
+        let a = text::put(line, 0, b"line ");
+        return put_number(line, a, k);
     }
-}
-
-// What is wrong with line k.
-fn put_fault(line: &mut [u8], k: u64, fault: &[u8]) -> usize
-    requires { ⌜ (roomBytes ≤ length (now line)) × (length (now fault) ≤ 16) ⌝ }
-    ensures { λ r. ⌜ r < roomBytes ⌝ }
-{
-    let a = text::put(line, 0, b"line ");
-    let b = put_number(line, a, k);
-    text::put(line, b, fault)
-}
-
-// The name of the line, behind which the rest is put.
-fn put_reply(n: usize, line: &mut [u8], c: Reply, output: &[u8]) -> usize
-    requires { ⌜ (roomBytes ≤ length (now line)) × (length (now output) ≤ stringBytes) ⌝ }
-    ensures { λ r. ⌜ r < roomBytes ⌝ }
-{
     let m = words::least(n, LINE);
     let name = script::until(&line[0..m], b' ');
     let numbers = c.numbers;
-    let at = put_numbers(line, name, c.count, numbers);
-    put_rest(line, at, c, output)
+    put_numbers(line, name, c.count, numbers)
 }
 
 // The first count of the numbers, a space before each.
@@ -178,7 +160,7 @@ fn put_number(line: &mut [u8], from: usize, x: u64) -> usize
     text::put(line, from, &number[..k])
 }
 
-// What comes behind the numbers.
+// What comes behind that.
 fn put_rest(line: &mut [u8], from: usize, c: Reply, output: &[u8]) -> usize
     requires { ⌜ (roomBytes ≤ length (now line)) × (from ≤ lineBytes + 4 * (1 + digits)) × (length (now output) ≤ stringBytes) ⌝ }
     ensures { λ r. ⌜ r < roomBytes ⌝ }
@@ -189,6 +171,8 @@ fn put_rest(line: &mut [u8], from: usize, c: Reply, output: &[u8]) -> usize
         NO => text::put(line, from, b" no"),
         OUTPUT => put_output(line, from, c.size, output),
         RECORD => put_record(line, from, c.next),
+        TOO_LONG => text::put(line, from, b": too long"),
+        NOT_A_CALL => text::put(line, from, b": not a call"),
         _ => from,
     }
 }
