@@ -16,37 +16,36 @@ const TOO_LONG: usize = 1001;
 
 const NOT_A_CALL: usize = 1002;
 
-// Makes the call that a line of n bytes says. The table has the name and the form of each kind of line; the kinds are counted in its order.
+// Makes the call that a line of n bytes says.
 pub fn answer(n: usize, buffer: &[u8], r: Record, given: &mut [u8], output: &mut [u8]) -> Reply {
-    let forms =
-        b"open nn append b rewind nb close lns record - set nnnbb whole nnblns same bb tally b forward nob backward nob";
     let m = words::least(n, buffer.len());
     let line = &buffer[0..m];
-    let place = script::place(forms, script::word(line, 0));
-    let form = script::word(forms, std::num::wrapping_add_usize(place, 1));
-    let w = words::read(line, form, given, output);
+    let w = read(line, given, output);
     let size = words::fitting(w.size, output);
-    call(
-        kind(n, line, place, w.is),
-        w,
-        r,
-        given,
-        &mut output[0..size],
-    )
+    call(kind(n, line, w), w, r, given, &mut output[0..size])
 }
 
-// The kind of a line whose name has a place in the table, where every second word is a name, and whose words are those of the form or not.
-fn kind(n: usize, line: &[u8], place: usize, is: bool) -> usize {
+// The words of a line. The table has the name and the form of each kind of line; the kinds are counted in its order.
+fn read(line: &[u8], given: &mut [u8], output: &mut [u8]) -> Words {
+    let forms =
+        b"open nn append b rewind nb close lns record - set nnnbb whole nnblns same bb tally b forward nob backward nob";
+    let place = script::place(forms, script::word(line, 0));
+    let form = script::word(forms, std::num::wrapping_add_usize(place, 1));
+    words::read(place, line, form, given, output)
+}
+
+// The kind of a line, by the place of its name in the table, where every second word is a name, and by whether its words are those of the form.
+fn kind(n: usize, line: &[u8], w: Words) -> usize {
     if LINE < n {
         return TOO_LONG;
     }
     if is_silent(line) {
         return SILENT;
     }
-    if !is | (place % 2 != 0) {
+    if !w.is | (w.place % 2 != 0) {
         return NOT_A_CALL;
     }
-    place / 2
+    w.place / 2
 }
 
 // An empty line, or one that begins with #.

@@ -14,6 +14,8 @@ const LENT: u8 = 0xa5;
 
 // What the words after the name say.
 pub struct Words {
+    // The place of the name in the table of forms.
+    pub place: usize,
     // Whether the words so far are those of the form.
     pub is: bool,
     // One value for each: of a number itself; of LAST the byte; of BYTES, which stand end to end in one buffer, the place where they end; of SIZE, and
@@ -29,8 +31,8 @@ pub struct Words {
 
 // Reads the words of a line by a form, which has a letter for each word after the name: n a number, l LAST, s SIZE, b BYTES, o BYTES that are lent as
 // an output. A dash is the form without words.
-pub fn read(line: &[u8], form: &[u8], given: &mut [u8], output: &mut [u8]) -> Words {
-    let mut w = none(script::until(line, b' '));
+pub fn read(place: usize, line: &[u8], form: &[u8], given: &mut [u8], output: &mut [u8]) -> Words {
+    let mut w = none(place, script::until(line, b' '));
     let end = letters(form);
     let mut i: usize = 0;
     while i < end {
@@ -40,8 +42,9 @@ pub fn read(line: &[u8], form: &[u8], given: &mut [u8], output: &mut [u8]) -> Wo
     complete(w, line.len())
 }
 
-fn none(name: usize) -> Words {
+fn none(place: usize, name: usize) -> Words {
     Words {
+        place: place,
         is: true,
         values: [0u64; WORDS],
         size: 0,
@@ -64,15 +67,9 @@ fn letters(form: &[u8]) -> usize
 }
 
 // The words of a line that ends where the last word does.
-fn complete(w: Words, len: usize) -> Words {
-    let values = w.values;
-    Words {
-        is: w.is & (len < w.next),
-        values: values,
-        size: w.size,
-        used: w.used,
-        next: w.next,
-    }
+fn complete(mut w: Words, len: usize) -> Words {
+    w.is = w.is & (len < w.next);
+    w
 }
 
 // Reads the next word, which the form has a letter for.
@@ -100,18 +97,15 @@ pub fn least(a: usize, b: usize) -> usize
 }
 
 // The words with one more, which stands from at to end. Where the line has no more words, at is not where the next was to begin.
-fn with(w: Words, i: usize, letter: u8, v: Number, at: usize, end: usize) -> Words {
-    let mut values = w.values;
+fn with(mut w: Words, i: usize, letter: u8, v: Number, at: usize, end: usize) -> Words {
     if i < WORDS {
-        values[i] = v.value;
+        w.values[i] = v.value;
     }
-    Words {
-        is: w.is & v.is & (i < WORDS) & (at == w.next),
-        values: values,
-        size: size_after(letter, w.size, v.value),
-        used: used_after(letter, w.used, v.value),
-        next: std::num::wrapping_add_usize(end, 1),
-    }
+    w.is = w.is & v.is & (i < WORDS) & (at == w.next);
+    w.size = size_after(letter, w.size, v.value);
+    w.used = used_after(letter, w.used, v.value);
+    w.next = std::num::wrapping_add_usize(end, 1);
+    w
 }
 
 fn size_after(letter: u8, before: u64, value: u64) -> u64 {

@@ -7,10 +7,10 @@ use Rattle.replay.proofs.words.read.Statement.{statement}
 use Rattle.replay.proofs.words.read.Tie as tie
 
 abbrev Inv-loop : tie.InvT-loop
-Inv-loop line form given₀ output₀ w₀ end i₀ given output w i = (end ≤ length form) × (length given ≡ length given₀) × (length output ≡ length output₀)
+Inv-loop place line form given₀ output₀ w₀ end i₀ given output w i = (end ≤ length form) × (length given ≡ length given₀) × (length output ≡ length output₀)
 
 abbrev μ-loop : tie.MeasureT-loop
-μ-loop line form given₀ output₀ w₀ end i₀ given output w i = end - i
+μ-loop place line form given₀ output₀ w₀ end i₀ given output w i = end - i
 
 pub read-spec : {M : Type 1} → statement M
 read-spec =
