@@ -6,6 +6,7 @@ use crate::receipts;
 use crate::reply;
 use crate::reply::Reply;
 use crate::words;
+use crate::words::WORDS;
 use crate::words::Words;
 use record::Record;
 
@@ -21,8 +22,9 @@ pub fn answer(n: usize, buffer: &[u8], r: Record, given: &mut [u8], output: &mut
     let m = words::least(n, buffer.len());
     let line = &buffer[0..m];
     let w = read(line, given, output);
+    let values = w.values;
     let size = words::fitting(w.size, output);
-    call(kind(n, line, w), w, r, given, &mut output[0..size])
+    call(kind(n, line, w), values, r, given, &mut output[0..size])
 }
 
 // The words of a line. The table has the name and the form of each kind of line; the kinds are counted in its order.
@@ -56,8 +58,8 @@ fn is_silent(line: &[u8]) -> bool {
     line[0] == b'#'
 }
 
-fn call(kind: usize, w: Words, r: Record, given: &[u8], output: &mut [u8]) -> Reply {
-    let v = w.values;
+// Makes the call of a kind, with the values of its words.
+fn call(kind: usize, v: [u64; WORDS], r: Record, given: &[u8], output: &mut [u8]) -> Reply {
     match kind {
         0 => order::open(v),
         1 => order::append(v, r, given),

@@ -167,10 +167,19 @@ fn put_rest(line: &mut [u8], from: usize, c: Reply, output: &[u8]) -> usize
 {
     let what = c.what;
     match what {
-        YES => text::put(line, from, b" yes"),
-        NO => text::put(line, from, b" no"),
         OUTPUT => put_output(line, from, c.size, output),
         RECORD => put_record(line, from, c.next),
+        _ => put_words(line, from, what),
+    }
+}
+
+fn put_words(line: &mut [u8], from: usize, what: u32) -> usize
+    requires { ⌜ (roomBytes ≤ length (now line)) × (from ≤ lineBytes + 4 * (1 + digits)) ⌝ }
+    ensures { λ r. ⌜ r < roomBytes ⌝ }
+{
+    match what {
+        YES => text::put(line, from, b" yes"),
+        NO => text::put(line, from, b" no"),
         TOO_LONG => text::put(line, from, b": too long"),
         NOT_A_CALL => text::put(line, from, b": not a call"),
         _ => from,
