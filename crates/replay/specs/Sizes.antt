@@ -11,7 +11,7 @@ lineBytes = 262144
 abbrev pub stringBytes : ℕ
 stringBytes = 131072
 
--- DIGITS: the most digits of a number of 64 bits
+-- DIGITS: the most digits of a number of 64 bits. No buffer of the program's own has this length, so what is proved is that DIGITS are enough
 abbrev pub digits : ℕ
 digits = 20
 
