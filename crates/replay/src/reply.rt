@@ -70,9 +70,9 @@ pub fn count(number: u32, count: u64, r: Record) -> Reply {
 }
 
 // A yes or a no, which only 0 comes with.
-pub fn truth(number: u32, is: bool, r: Record) -> Reply {
-    if number != 0 {
-        return numbers(1, [number as u64, 0, 0, 0], r);
+pub fn truth(answer: u32, is: bool, r: Record) -> Reply {
+    if answer != 0 {
+        return number(answer, r);
     }
     if is {
         return reply_of(YES, 1, [0, 0, 0, 0], 0, r);
