@@ -1,14 +1,25 @@
--- A run by its word size.
+-- A figure and a run by their word size.
 -- Assumes nothing.
 use mathlib.Core.Path.{_≡_, sym, ap, _∙_, subst}
+use mathlib.Core.Bool.{Bool, true, false}
 use mathlib.Core.List.{List, []}
 use Prim.Native.Nat.{ℕ, _/_, _<_}
 use native.Mathlib.Nat.{div-eq-of-lt}
 use lib.ListN.{length}
-use Rattle.lsh.specs.WordSize.{WordSize, sizeOf, blockBytes}
+use borrow.Author.Tests.{ne-eqb}
+use Rattle.lsh.specs.WordSize.{WordSize, lsh256, lsh512, sizeOf, blockBytes}
 use Rattle.lsh.specs.Padding.{blocksOf}
 use Rattle.lsh.proofs.Figures.{block-some}
 use Rattle.lsh.proofs.Padding.{blocks-short}
+
+module _ (figure : WordSize → ℕ) (w : ℕ) where
+  pub figure-64 : w ≡ 64 → figure lsh512 ≡ figure (sizeOf w)
+  unfolding sizeOf
+  figure-64 is = rw is
+
+  pub figure-other : (w ≡ 64 → ⊥) → figure lsh256 ≡ figure (sizeOf w)
+  unfolding sizeOf
+  figure-other other = ap (λ (b : Bool). figure (elim b [ true ↦ lsh512 | false ↦ lsh256 ])) (sym (ne-eqb w 64 other))
 
 -- blocks run on a chain of a word size, forward or backward
 abbrev pub Running : Type 0

@@ -5,7 +5,8 @@ ghost use mathlib.Core.List.{_∷_};
 ghost use Prim.Native.Nat.{ℕ, _*_, _/_, _^_, _<_, _≤_};
 ghost use lib.ListN.{length, replicate};
 ghost use Rattle.lsh.specs.Tabulate.{at};
-ghost use Rattle.lsh.specs.WordSize.{isWordSize, sizeOf, blockBytes};
+ghost use Rattle.lsh.specs.WordSize.{isWordSize, sizeOf, chainBytes, blockBytes};
+ghost use Rattle.lsh.specs.Bytes.{bytesOf};
 ghost use Rattle.lsh.specs.Block.{Chain, forwards, backwards};
 ghost use Rattle.lsh.specs.Opening.{opening};
 ghost use Rattle.lsh.specs.Padding.{blocksOf};
@@ -47,6 +48,16 @@ pub fn block_bytes(w: u64) -> usize
         return Lsh512::BLOCK;
     }
     Lsh256::BLOCK
+}
+
+// Bytes of a chain, by w.
+pub fn chain_bytes(w: u64) -> usize
+    ensures { λ r. ⌜ r ≡ chainBytes (sizeOf w) ⌝ }
+{
+    if w == 64 {
+        return Lsh512::CHAIN;
+    }
+    Lsh256::CHAIN
 }
 
 // The most bits of a digest: 8w, where a block has 4w bytes.
@@ -284,6 +295,18 @@ pub fn zero_bytes() -> [u8; LONGEST_BLOCK]
     ensures { λ r. ⌜ r ≡ replicate longestBlock 0 ⌝ }
 {
     [0u8; LONGEST_BLOCK]
+}
+
+// Puts the bytes of a chain into d.
+pub fn store_chain(w: u64, d: &mut [u8], t: [u64; 16])
+    requires { ⌜ (isWordSize w ≡ true) × Chain (sizeOf w) t × (length (now d) ≡ chainBytes (sizeOf w)) ⌝ }
+    ensures { λ _. ⌜ now (d .exit) ≡ bytesOf (sizeOf w) t ⌝ }
+{
+    if w == 32 {
+        lsh256::store_chain(d, narrow(t));
+        return;
+    }
+    lsh512::store_chain(d, t);
 }
 
 // The same numbers as words of 32 bits, and back.

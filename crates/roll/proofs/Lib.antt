@@ -1,0 +1,9 @@
+-- Laws of rolls.
+pub mod Members
+pub mod Ways
+pub mod Places
+pub mod Writes
+pub mod Form
+pub mod Shown
+pub mod Sizes
+pub mod Walked

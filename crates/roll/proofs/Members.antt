@@ -1,0 +1,204 @@
+-- Numbers in a list, and how many of the numbers 1 to k it lacks: a list without repetition that has only such numbers is not longer than k, and a list
+-- shorter than k lacks one, which the free choice finds.
+-- Assumes nothing.
+use mathlib.Core.Path.{_≡_, refl, sym, ap, _∙_}
+use mathlib.Core.Bool.{Bool, true, false, cond, _&&_, _||_, false≢true}
+use mathlib.Core.Logic.{_⊎_, inl, inr, ⊎-elim}
+use mathlib.Core.List.{List, [], _∷_, _++_}
+use Prim.Native.Nat.{ℕ, zero, suc, _+_, _≤_, _<_}
+use native.Mathlib.Decide.{ℕ-discrete}
+use native.Mathlib.Omega.{arith}
+use lib.Dec.{eqb, leb}
+use lib.ListN.{length, take}
+use borrow.Author.Tests.{eqb-true, eq-eqb, ne-eqb, leb-true, le-leb}
+use Rattle.lsh.specs.Tabulate.{at}
+use Rattle.lsh.proofs.Tests.{and-true}
+use Rattle.roll.specs.Members.{member, repeats, allUpTo}
+use Rattle.roll.specs.FreeSlot.{firstFree, freeSlot, Unlinked, FreeChoice}
+
+-- a test of either of two
+or-false : (p q : Bool) → p || q ≡ false → (p ≡ false) × (q ≡ false)
+or-false true q e = absurd (false≢true (sym e))
+or-false false q e = (refl, e)
+
+or-true : (p : Bool) → p || true ≡ true
+or-true true = refl
+or-true false = refl
+
+or-none : (p : Bool) → p || false ≡ p
+or-none true = refl
+or-none false = refl
+
+or-either : (p q : Bool) → p || q ≡ true → (p ≡ true) ⊎ (q ≡ true)
+or-either true q e = inl refl
+or-either false q e = inr e
+
+-- a number at the head, and one behind it
+pub member-here : (x : ℕ) (l : List ℕ) → member x (x ∷ l) ≡ true
+member-here x l = rw (eq-eqb x x refl)
+
+pub member-there : (x y : ℕ) (l : List ℕ) → member x l ≡ true → member x (y ∷ l) ≡ true
+member-there x y l e = rw e (or-true (eqb x y))
+
+pub member-cases : (x y : ℕ) (l : List ℕ) → member x (y ∷ l) ≡ true → (x ≡ y) ⊎ (member x l ≡ true)
+member-cases x y l e = ⊎-elim (λ h. inl (eqb-true x y h)) (λ h. inr h) (or-either (eqb x y) (member x l) e)
+
+pub not-member : (x y : ℕ) (l : List ℕ) → member x (y ∷ l) ≡ false → (x ≡ y → ⊥) × (member x l ≡ false)
+not-member x y l e =
+    let p : (eqb x y ≡ false) × (member x l ≡ false) = or-false (eqb x y) (member x l) e in
+    (λ same. false≢true (sym (p .0) ∙ eq-eqb x y same), p .1)
+
+-- two numbers of which one stands in the list and the other does not
+pub apart : (x y : ℕ) (l : List ℕ) → member x l ≡ true → member y l ≡ false → x ≡ y → ⊥
+apart x y l h k e = false≢true (sym k ∙ ap (λ (n : ℕ). member n l) (sym e) ∙ h)
+
+pub member-at : (l : List ℕ) (m : ℕ) → m < length l → member (at l m) l ≡ true
+member-at [] m h = absurd (omega arith)
+member-at (x ∷ l) zero h = member-here x l
+member-at (x ∷ l) (suc m) h = member-there (at l m) x l (member-at l m (omega arith))
+
+pub member-take : (x m : ℕ) (l : List ℕ) → member x (take m l) ≡ true → member x l ≡ true
+member-take x zero l e = absurd (false≢true e)
+member-take x (suc m) [] e = e
+member-take x (suc m) (y ∷ l) e =
+    ⊎-elim (λ h. rw (eq-eqb x y h)) (λ h. member-there x y l (member-take x m l h)) (member-cases x y (take m l) e)
+
+pub member-snoc : (x y : ℕ) (l : List ℕ) → member x (l ++ y ∷ []) ≡ (eqb x y || member x l)
+member-snoc x y [] = refl
+member-snoc x y (z ∷ l) = rw (member-snoc x y l) (swap (eqb x z) (eqb x y) (member x l))
+  where
+    swap : (a b c : Bool) → a || (b || c) ≡ b || (a || c)
+    swap true true c = refl
+    swap true false c = refl
+    swap false b c = refl
+
+-- what has no number twice has none twice in its first part, and with one more that it lacks
+pub repeats-parts : (x : ℕ) (l : List ℕ) → repeats (x ∷ l) ≡ false → (member x l ≡ false) × (repeats l ≡ false)
+repeats-parts x l e = or-false (member x l) (repeats l) e
+
+member-take-false : (x m : ℕ) (l : List ℕ) → member x l ≡ false → member x (take m l) ≡ false
+member-take-false x m l e = go (member x (take m l)) refl
+  where
+    go : (b : Bool) → member x (take m l) ≡ b → member x (take m l) ≡ false
+    go true h = absurd (false≢true (sym e ∙ member-take x m l h))
+    go false h = h
+
+pub repeats-take : (m : ℕ) (l : List ℕ) → repeats l ≡ false → repeats (take m l) ≡ false
+repeats-take zero l e = refl
+repeats-take (suc m) [] e = refl
+repeats-take (suc m) (x ∷ l) e =
+    rw (member-take-false x m l (repeats-parts x l e .0)) (repeats-take m l (repeats-parts x l e .1))
+
+pub repeats-snoc : (y : ℕ) (l : List ℕ) → repeats l ≡ false → member y l ≡ false → repeats (l ++ y ∷ []) ≡ false
+repeats-snoc y [] e h = refl
+repeats-snoc y (x ∷ l) e h =
+    let p : (member x l ≡ false) × (repeats l ≡ false) = repeats-parts x l e in
+    let q : (y ≡ x → ⊥) × (member y l ≡ false) = not-member y x l h in
+    rw (member-snoc x y l, ne-eqb x y (λ s. q .0 (sym s)), p .0) (repeats-snoc y l (p .1) (q .1))
+
+-- a number met again shows in any longer part
+pub repeats-again : (m : ℕ) (l : List ℕ) → m < length l → member (at l m) (take m l) ≡ true → repeats l ≡ true
+repeats-again m [] h e = absurd (omega arith)
+repeats-again zero (x ∷ l) h e = absurd (false≢true e)
+repeats-again (suc m) (x ∷ l) h e =
+    ⊎-elim
+    (λ same. let back : member x l ≡ true = ap (λ (n : ℕ). member n l) (sym same) ∙ member-at l m (omega arith) in rw back)
+    (λ later. rw (repeats-again m l (omega arith) later) (or-true (member x l)))
+    (member-cases (at l m) x (take m l) e)
+
+-- the test of a bound, for each number
+pub each-up-to : (k : ℕ) (l : List ℕ) → allUpTo k l ≡ true → (x : ℕ) → member x l ≡ true → x ≤ k
+each-up-to k [] e x h = absurd (false≢true h)
+each-up-to k (y ∷ l) e x h =
+    let p : (leb y k ≡ true) × (allUpTo k l ≡ true) = and-true (leb y k) (allUpTo k l) e in
+    ⊎-elim (λ same. omega (arith, leb-true y k (p .0))) (λ later. each-up-to k l (p .1) x later) (member-cases x y l h)
+
+pub all-up-to : (k : ℕ) (l : List ℕ) → ((x : ℕ) → member x l ≡ true → x ≤ k) → allUpTo k l ≡ true
+all-up-to k [] h = refl
+all-up-to k (y ∷ l) h = rw (le-leb y k (h y (member-here y l))) (all-up-to k l (λ x e. h x (member-there x y l e)))
+
+-- how many of the numbers 1 to k the list lacks
+abbrev missing : ℕ → List ℕ → ℕ
+missing zero l = 0
+missing (suc k) l = cond (member (suc k) l) (missing k l) (suc (missing k l))
+
+missing-above : (k x : ℕ) (l : List ℕ) → k < x → missing k (x ∷ l) ≡ missing k l
+missing-above zero x l h = refl
+missing-above (suc k) x l h = rw (ne-eqb (suc k) x (λ e. omega arith), missing-above k x l (omega arith))
+
+-- a number that is put into the list: one less is missing if it is one of the k and was not there, and never more than that
+missing-new : (k x : ℕ) (l : List ℕ) → 0 < x → x ≤ k → member x l ≡ false → missing k l ≡ missing k (x ∷ l) + 1
+missing-new zero x l some le none = absurd (omega arith)
+missing-new (suc k) x l some le none = go (ℕ-discrete (suc k) x) (λ less. missing-new k x l some less none)
+  where
+    go : Dec (suc k ≡ x) → (x ≤ k → missing k l ≡ missing k (x ∷ l) + 1) → missing (suc k) l ≡ missing (suc k) (x ∷ l) + 1
+    go (yes e) below =
+        let n : member (suc k) l ≡ false = ap (λ (i : ℕ). member i l) e ∙ none in
+        rw (n, eq-eqb (suc k) x e, missing-above k x l (omega arith)) (omega arith)
+    go (no ne) below = both (member (suc k) l) (below (omega arith))
+      where
+        both : (b : Bool) → missing k l ≡ missing k (x ∷ l) + 1
+            → cond b (missing k l) (suc (missing k l)) ≡ cond (eqb (suc k) x || b) (missing k (x ∷ l)) (suc (missing k (x ∷ l))) + 1
+        both true h = rw (ne-eqb (suc k) x ne) h
+        both false h = rw (ne-eqb (suc k) x ne) (omega arith)
+
+missing-any : (k x : ℕ) (l : List ℕ) → missing k l ≤ missing k (x ∷ l) + 1
+missing-any zero x l = omega arith
+missing-any (suc k) x l = go (ℕ-discrete (suc k) x) (member (suc k) l) (missing-any k x l)
+  where
+    go : Dec (suc k ≡ x) → (b : Bool) → missing k l ≤ missing k (x ∷ l) + 1
+        → cond b (missing k l) (suc (missing k l)) ≤ cond (eqb (suc k) x || b) (missing k (x ∷ l)) (suc (missing k (x ∷ l))) + 1
+    go (yes e) true h = rw (eq-eqb (suc k) x e) h
+    go (yes e) false h = rw (eq-eqb (suc k) x e, missing-above k x l (omega arith)) (omega arith)
+    go (no ne) true h = rw (ne-eqb (suc k) x ne) h
+    go (no ne) false h = rw (ne-eqb (suc k) x ne) (omega arith)
+
+missing-all : (k : ℕ) → missing k [] ≡ k
+missing-all zero = refl
+missing-all (suc k) = ap suc (missing-all k)
+
+missing-most : (k : ℕ) (l : List ℕ) → k ≤ missing k l + length l
+missing-most k [] = omega (arith, missing-all k)
+missing-most k (x ∷ l) = omega (arith, missing-any k x l, missing-most k l)
+
+missing-none : (k : ℕ) (l : List ℕ) → ((i : ℕ) → 0 < i → i ≤ k → member i l ≡ true) → missing k l ≡ 0
+missing-none zero l h = refl
+missing-none (suc k) l h = rw (h (suc k) (omega arith) (omega arith)) (missing-none k l (λ i some le. h i some (omega arith)))
+
+-- numbers of 1 to k, none twice
+missing-distinct : (k : ℕ) (l : List ℕ) → repeats l ≡ false → ((x : ℕ) → member x l ≡ true → (0 < x) × (x ≤ k)) → missing k l + length l ≡ k
+missing-distinct k [] e h = omega (arith, missing-all k)
+missing-distinct k (x ∷ l) e h =
+    let p : (member x l ≡ false) × (repeats l ≡ false) = repeats-parts x l e in
+    let one : (0 < x) × (x ≤ k) = h x (member-here x l) in
+    omega (arith, missing-new k x l (one .0) (one .1) (p .0), missing-distinct k l (p .1) (λ y m. h y (member-there y x l m)))
+
+pub distinct-few : (k : ℕ) (l : List ℕ) → repeats l ≡ false → ((x : ℕ) → member x l ≡ true → (0 < x) × (x ≤ k)) → length l ≤ k
+distinct-few k l e h = omega (arith, missing-distinct k l e h)
+
+-- the first of n numbers that is not in the list, if there is one
+first-free : (i n : ℕ) (l : List ℕ)
+    → ((i ≤ firstFree i n l) × (firstFree i n l < i + n) × (member (firstFree i n l) l ≡ false)) ⊎ ((j : ℕ) → i ≤ j → j < i + n → member j l ≡ true)
+first-free i zero l = inr (λ j le lt. absurd (omega arith))
+first-free i (suc n) l = go (member i l) refl (first-free (suc i) n l)
+  where
+    go : (b : Bool) → member i l ≡ b
+        → ((suc i ≤ firstFree (suc i) n l) × (firstFree (suc i) n l < suc i + n) × (member (firstFree (suc i) n l) l ≡ false))
+        ⊎ ((j : ℕ) → suc i ≤ j → j < suc i + n → member j l ≡ true)
+        → ((i ≤ cond b (firstFree (suc i) n l) i) × (cond b (firstFree (suc i) n l) i < i + suc n) × (member (cond b (firstFree (suc i) n l) i) l ≡ false))
+        ⊎ ((j : ℕ) → i ≤ j → j < i + suc n → member j l ≡ true)
+    go false e rest = inl (omega arith, omega arith, e)
+    go true e (inl h) = inl (omega arith, omega arith, h .2)
+    go true e (inr h) = inr (λ j le lt. here j le lt (ℕ-discrete j i))
+      where
+        here : (j : ℕ) → i ≤ j → j < i + suc n → Dec (j ≡ i) → member j l ≡ true
+        here j le lt (yes same) = ap (λ (x : ℕ). member x l) same ∙ e
+        here j le lt (no other) = h j (omega arith) (omega arith)
+
+pub free-choice : FreeChoice freeSlot
+unfolding FreeChoice freeSlot
+free-choice k l few =
+    ⊎-elim
+    (λ h. record { some = h .0; within = omega arith; free = h .2 })
+    (λ h. absurd (omega (arith, missing-most k l, missing-none k l (λ i some le. h i some (omega arith)))))
+    (first-free 1 k l)

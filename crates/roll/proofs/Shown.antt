@@ -1,0 +1,247 @@
+-- What a roll shows after a checkpoint was laid, and after links were taken off. Of the slot taken only what holds of a free choice is used.
+-- Assumes nothing.
+use mathlib.Core.Path.{_≡_, refl, sym, ap, ap₂, _∙_, subst}
+use mathlib.Core.Bool.{Bool, true, false, cond, false≢true}
+use mathlib.Core.Logic.{⊎-elim}
+use mathlib.Core.List.{List, [], _∷_, _++_, map, append-nil}
+use Prim.Native.Nat.{ℕ, zero, suc, _+_, _≤_, _<_, _^_}
+use native.Mathlib.Nat.{le-refl}
+use native.Mathlib.Omega.{arith}
+use lib.Dec.{eqb, ltb}
+use lib.ListN.{length, take}
+use lib.Seq.{take-all, take-length}
+use borrow.Author.Tests.{ltb-true, ltb-false}
+use Rattle.lsh.specs.Tabulate.{at}
+use Rattle.lsh.specs.WordSize.{WordSize}
+use Rattle.lsh.specs.Block.{Chain}
+use Rattle.lsh.proofs.Bytes.{Octets}
+use Rattle.roll.specs.Slots.{mostSlots, rollBytes, slotCount, isRollLength}
+use Rattle.roll.specs.Members.{member, repeats}
+use Rattle.roll.specs.Roll.{nextIndex, links, chainIn, shown, isRoll}
+use Rattle.roll.specs.FreeSlot.{freeSlot, Unlinked, FreeChoice}
+use Rattle.roll.specs.Checkpoints.{withIndex, withSlot, leadTo, taken, laid, unlinked}
+use Rattle.roll.proofs.Members.{apart, member-here, member-there, member-cases, member-at, member-take, member-snoc, repeats-take, repeats-snoc, free-choice}
+use Rattle.roll.proofs.Ways.{Leads, relinked}
+use Rattle.roll.proofs.Writes.{index-size, next-is, next-other, chain-kept, slot-size, slot-next, slot-next-other, slot-chain, slot-chain-other}
+use Rattle.roll.proofs.Form.{Sized, sized, Linked, linked, links-are, is-roll}
+
+-- the same function on the numbers of a list, and on parts of it
+map-same : (f g : ℕ → List ℕ) (l : List ℕ) → ((x : ℕ) → member x l ≡ true → f x ≡ g x) → map f l ≡ map g l
+map-same f g [] h = refl
+map-same f g (x ∷ l) h =
+    ap₂ (λ (y : List ℕ) (ys : List (List ℕ)). y ∷ ys) (h x (member-here x l)) (map-same f g l (λ y e. h y (member-there y x l e)))
+
+map-snoc : (f : ℕ → List ℕ) (l : List ℕ) (x : ℕ) → map f (l ++ x ∷ []) ≡ map f l ++ f x ∷ []
+map-snoc f [] x = refl
+map-snoc f (y ∷ l) x = ap (λ (ys : List (List ℕ)). f y ∷ ys) (map-snoc f l x)
+
+map-take : (f : ℕ → List ℕ) (m : ℕ) (l : List ℕ) → map f (take m l) ≡ take m (map f l)
+map-take f zero l = refl
+map-take f (suc m) [] = refl
+map-take f (suc m) (x ∷ l) = ap (λ (ys : List (List ℕ)). f x ∷ ys) (map-take f m l)
+
+-- a chain for each link
+pub shown-many : (z : WordSize) (s : List ℕ) → length (shown z s) ≡ length (links z s)
+unfolding shown
+shown-many z s = go (links z s)
+  where
+    go : (l : List ℕ) → length (map (chainIn z s) l) ≡ length l
+    go [] = refl
+    go (x ∷ l) = ap suc (go l)
+
+module _ (z : WordSize) (ok : Octets z) (s : List ℕ) (is : isRoll z s ≡ true) where
+  abbrev L : List ℕ
+  L = links z s
+
+  abbrev k : ℕ
+  k = slotCount z (length s)
+
+  have : Linked z s
+  have = linked z s is
+
+  sizes : Sized z s
+  sizes = sized z s (have .right)
+
+  head-apart : member 0 L ≡ false
+  head-apart = go (member 0 L) refl
+    where
+      go : (b : Bool) → member 0 L ≡ b → member 0 L ≡ false
+      go true e = absurd (omega (arith, have .within 0 e .0))
+      go false e = e
+
+  from-head : repeats (0 ∷ L) ≡ false
+  from-head = rw head-apart (have .distinct)
+
+  -- the head and the links are among the places of indexes
+  lead-member : (m : ℕ) → m ≤ length L → member (at (0 ∷ L) m) (0 ∷ L) ≡ true
+  lead-member m le = member-at (0 ∷ L) m (omega arith)
+
+  lead-within : (q : ℕ) → member q (0 ∷ L) ≡ true → q ≤ k
+  lead-within q h = ⊎-elim (λ e. omega arith) (λ e. have .within q e .1) (member-cases q 0 L h)
+
+  pub lead-in : (m : ℕ) → m ≤ length L → leadTo z s m ≤ k
+  unfolding leadTo
+  lead-in m le = lead-within (at (0 ∷ L) m) (lead-member m le)
+
+  -- a checkpoint laid
+  module _ (room : length L < k) (t : List ℕ) (chain : Chain z t) where
+    abbrev i : ℕ
+    i = taken z s
+
+    free : Unlinked k L i
+    unfolding taken FreeChoice
+    free = free-choice k L room
+
+    pub taken-within : (0 < i) × (i ≤ k)
+    taken-within = (free .some, free .within)
+
+    abbrev last : ℕ
+    last = at (0 ∷ L) (length L)
+
+    last-within : last ≤ k
+    last-within = lead-within last (lead-member (length L) (le-refl (length L)))
+
+    abbrev S : List ℕ
+    S = withSlot z s i t
+
+    written : length S ≡ length s
+    written = slot-size z ok k s (sizes .size) i (free .within) (free .some) t chain
+
+    abbrev U : List ℕ
+    U = withIndex z S last i
+
+    laid-is : laid z t s ≡ U
+    unfolding laid leadTo
+    laid-is = refl
+
+    laid-length : length U ≡ length s
+    laid-length = index-size z ok k S (written ∙ sizes .size) last last-within i ∙ written
+
+    -- the slot taken is none of those on the way
+    unlike : (q : ℕ) → member q (0 ∷ L) ≡ true → q ≡ i → ⊥
+    unlike q h e =
+        ⊎-elim (λ zero-is. let p : 0 < i = free .some in absurd (omega arith)) (λ m. apart q i L m (free .free) e) (member-cases q 0 L h)
+
+    last-unlike : i ≡ last → ⊥
+    last-unlike e = unlike last (lead-member (length L) (le-refl (length L))) (sym e)
+
+    next-kept : (q : ℕ) → member q (0 ∷ L) ≡ true → (q ≡ last → ⊥) → nextIndex z U q ≡ nextIndex z s q
+    next-kept q h other =
+        next-other z ok k S (written ∙ sizes .size) last last-within i q other
+        ∙ slot-next-other z ok k s (sizes .size) i (free .within) (free .some) t chain q (unlike q h)
+
+    next-last : nextIndex z U last ≡ i
+    next-last = next-is z ok k S (written ∙ sizes .size) last last-within i (omega (arith, free .within, sizes .most))
+
+    next-taken : nextIndex z U i ≡ 0
+    next-taken =
+        next-other z ok k S (written ∙ sizes .size) last last-within i i last-unlike
+        ∙ slot-next z ok k s (sizes .size) i (free .within) (free .some) t chain
+
+    laid-way : Leads (nextIndex z U) (nextIndex z U 0) (L ++ i ∷ [])
+    laid-way =
+        subst (λ (l : List ℕ). Leads (nextIndex z U) (nextIndex z U 0) (l ++ i ∷ [])) (take-length L)
+        (relinked (nextIndex z s) (nextIndex z U) L (length L) 0 i (i ∷ []) (have .way) from-head (le-refl (length L)) next-kept next-last
+        (refl, (λ e. let p : 0 < i = free .some in absurd (omega arith)), next-taken))
+
+    laid-distinct : repeats (L ++ i ∷ []) ≡ false
+    laid-distinct = repeats-snoc i L (have .distinct) (free .free)
+
+    laid-within : (x : ℕ) → member x (L ++ i ∷ []) ≡ true → (0 < x) × (x ≤ slotCount z (length U))
+    laid-within x h =
+        rw laid-length
+        (⊎-elim (λ e. subst (λ (n : ℕ). (0 < n) × (n ≤ k)) (sym e) (free .some, free .within)) (have .within x)
+        (member-cases x i L (sym (member-snoc x i L) ∙ h)))
+
+    laid-right : isRollLength z (length U) ≡ true
+    laid-right = ap (isRollLength z) laid-length ∙ have .right
+
+    pub laid-size : length (laid z t s) ≡ length s
+    laid-size = ap length laid-is ∙ laid-length
+
+    pub laid-links : links z (laid z t s) ≡ L ++ i ∷ []
+    laid-links = ap (links z) laid-is ∙ links-are z U (L ++ i ∷ []) laid-right laid-way laid-distinct laid-within
+
+    pub laid-roll : isRoll z (laid z t s) ≡ true
+    laid-roll = ap (isRoll z) laid-is ∙ is-roll z U (L ++ i ∷ []) laid-right laid-way laid-distinct laid-within
+
+    chain-stays : (x : ℕ) → member x L ≡ true → chainIn z U x ≡ chainIn z s x
+    chain-stays x h =
+        chain-kept z ok k S (written ∙ sizes .size) last last-within i x (have .within x h .0)
+        ∙ slot-chain-other z ok k s (sizes .size) i (free .within) (free .some) t chain x (have .within x h .0) (λ e. apart x i L h (free .free) e)
+
+    chain-new : chainIn z U i ≡ t
+    chain-new =
+        chain-kept z ok k S (written ∙ sizes .size) last last-within i i (free .some)
+        ∙ slot-chain z ok k s (sizes .size) i (free .within) (free .some) t chain
+
+    -- it shows one chain more
+    pub laid-shown : shown z (laid z t s) ≡ shown z s ++ t ∷ []
+    unfolding shown
+    laid-shown =
+        ap₂ (λ (u : List ℕ) (l : List ℕ). map (chainIn z u) l) laid-is laid-links
+        ∙ map-snoc (chainIn z U) L i
+        ∙ ap₂ (λ (xs : List (List ℕ)) (x : List ℕ). xs ++ x ∷ []) (map-same (chainIn z U) (chainIn z s) L chain-stays) chain-new
+
+  -- links taken off
+  module _ (m : ℕ) where
+    module _ (less : m < length L) where
+      abbrev at-m : ℕ
+      at-m = at (0 ∷ L) m
+
+      m-within : at-m ≤ k
+      m-within = lead-within at-m (lead-member m (omega arith))
+
+      abbrev C : List ℕ
+      C = withIndex z s at-m 0
+
+      cut-length : length C ≡ length s
+      cut-length = index-size z ok k s (sizes .size) at-m m-within 0
+
+      cut-way : Leads (nextIndex z C) (nextIndex z C 0) (take m L)
+      cut-way =
+          subst (λ (l : List ℕ). Leads (nextIndex z C) (nextIndex z C 0) l) (append-nil (take m L))
+          (relinked (nextIndex z s) (nextIndex z C) L m 0 0 [] (have .way) from-head (omega arith)
+          (λ q h other. next-other z ok k s (sizes .size) at-m m-within 0 q other)
+          (next-is z ok k s (sizes .size) at-m m-within 0 (omega arith)) refl)
+
+      cut-right : isRollLength z (length C) ≡ true
+      cut-right = ap (isRollLength z) cut-length ∙ have .right
+
+      cut-within : (x : ℕ) → member x (take m L) ≡ true → (0 < x) × (x ≤ slotCount z (length C))
+      cut-within x h = rw cut-length (have .within x (member-take x m L h))
+
+      cut-links : links z C ≡ take m L
+      cut-links = links-are z C (take m L) cut-right cut-way (repeats-take m L (have .distinct)) cut-within
+
+      cut-roll : isRoll z C ≡ true
+      cut-roll = is-roll z C (take m L) cut-right cut-way (repeats-take m L (have .distinct)) cut-within
+
+      cut-shown : shown z C ≡ take m (shown z s)
+      unfolding shown
+      cut-shown =
+          ap (map (chainIn z C)) cut-links
+          ∙ map-same (chainIn z C) (chainIn z s) (take m L)
+          (λ x h. chain-kept z ok k s (sizes .size) at-m m-within 0 x (have .within x (member-take x m L h) .0))
+          ∙ map-take (chainIn z s) m L
+
+    -- a roll of the same length, that shows the first m chains
+    pub record Cut (u : List ℕ) : Type 0 where
+      pub size : length u ≡ length s
+      pub roll : isRoll z u ≡ true
+      pub shows : shown z u ≡ take m (shown z s)
+
+    pub unlinked-cut : Cut (unlinked z m s)
+    unfolding unlinked leadTo
+    unlinked-cut = go (ltb m (length L)) refl
+      where
+        go : (b : Bool) → ltb m (length L) ≡ b → Cut (cond b (withIndex z s (at (0 ∷ L) m) 0) s)
+        go true e =
+            let less : m < length L = ltb-true m (length L) e in
+            record { size = cut-length less; roll = cut-roll less; shows = cut-shown less }
+        go false e =
+            record {
+              size = refl;
+              roll = is;
+              shows = sym (take-all m (shown z s) (omega (arith, shown-many z s, ltb-false m (length L) e)));
+            }

@@ -1,0 +1,273 @@
+-- The walk from the head: what is known after count links, and what is known at its end. L are the links that the definition meets.
+-- Assumes nothing.
+use mathlib.Core.Path.{_≡_, refl, sym, ap, ap₂, _∙_, subst}
+use mathlib.Core.Bool.{Bool, true, false, not, cond, _&&_, _||_, false≢true}
+use mathlib.Core.Logic.{⊎-elim}
+use mathlib.Core.List.{List, [], _∷_, _++_}
+use Prim.Native.Nat.{ℕ, zero, suc, _+_, _≤_, _<_, zero-le}
+use native.Mathlib.Nat.{le-refl}
+use native.Mathlib.Numerals.{add-one}
+use native.Mathlib.Decide.{ℕ-discrete, decLt}
+use native.Mathlib.Omega.{arith}
+use lib.Dec.{eqb}
+use lib.ListN.{length, take, set, replicate, length-append, length-replicate, length-set, getD-replicate, List·getD-eq-default}
+use lib.Seq.{take-suc, take-all, length-take-le, getD-set-same, getD-set-other, getD-at}
+use borrow.Author.Tests.{eq-eqb, ne-eqb}
+use Rattle.lsh.specs.Tabulate.{at, tabulate}
+use Rattle.lsh.specs.WordSize.{WordSize}
+use Rattle.lsh.specs.Block.{Chain}
+use Rattle.lsh.proofs.Bytes.{Octets}
+use Rattle.lsh.proofs.Tabulate.{length-tabulate, at-tabulate, tabulate-ext}
+use Rattle.roll.specs.declared.Way.{Way}
+use Rattle.roll.specs.Slots.{mostSlots, slotCount, isRollLength}
+use Rattle.roll.specs.Members.{member, repeats, allUpTo}
+use Rattle.roll.specs.Roll.{nextIndex, links, isRoll}
+use Rattle.roll.specs.Checkpoints.{leadTo, taken, laid}
+use Rattle.roll.specs.Way.{marked, noWay, wayOf}
+use Rattle.roll.proofs.Members.{member-at, member-take, member-cases, member-snoc, repeats-snoc, repeats-again, distinct-few, all-up-to}
+use Rattle.roll.proofs.Ways.{met-first, met-next}
+use Rattle.roll.proofs.Form.{Sized, sized, Linked, linked, links-some}
+use Rattle.roll.proofs.Shown.{taken-within, laid-size, laid-links, laid-roll}
+
+-- the marks of a list
+
+
+pub marked-none : replicate (mostSlots + 1) 0 ≡ marked []
+unfolding marked
+marked-none =
+    sym (tabulate-ext (mostSlots + 1) (λ i. 0) (replicate (mostSlots + 1) 0) (length-replicate {A = ℕ} (mostSlots + 1) 0)
+    (λ i lt. sym (getD-replicate (mostSlots + 1) i 0 0 lt)))
+
+module _ (l : List ℕ) where
+  pub marked-length : length (marked l) ≡ mostSlots + 1
+  unfolding marked
+  marked-length = length-tabulate (mostSlots + 1) (λ i. cond (member i l) 1 0)
+
+  marked-at : (i : ℕ) → i ≤ mostSlots → at (marked l) i ≡ cond (member i l) 1 0
+  unfolding marked
+  marked-at i le = at-tabulate (mostSlots + 1) (λ j. cond (member j l) 1 0) i (omega arith)
+
+  pub unmarked : (i : ℕ) → i ≤ mostSlots → at (marked l) i ≡ 0 → member i l ≡ false
+  unmarked i le e = go (member i l) (sym (marked-at i le) ∙ e)
+    where
+      go : (b : Bool) → _≡_ {A = ℕ} (cond b 1 0) 0 → b ≡ false
+      go true h = absurd (omega arith)
+      go false h = refl
+
+  pub marked-is : (i : ℕ) → i ≤ mostSlots → (at (marked l) i ≡ 0 → ⊥) → member i l ≡ true
+  marked-is i le ne = go (member i l) (λ h. ne (marked-at i le ∙ h))
+    where
+      go : (b : Bool) → (_≡_ {A = ℕ} (cond b 1 0) 0 → ⊥) → b ≡ true
+      go true h = refl
+      go false h = absurd (h refl)
+
+  pub marked-more : (i : ℕ) → i ≤ mostSlots → set (marked l) i 1 ≡ marked (l ++ i ∷ [])
+  unfolding marked
+  marked-more i le =
+      sym (tabulate-ext (mostSlots + 1) (λ j. cond (member j (l ++ i ∷ [])) 1 0) (set (marked l) i 1)
+      (length-set (marked l) i 1 ∙ marked-length) (λ j lt. ap (λ (b : Bool). cond {A = ℕ} b 1 0) (member-snoc j i l) ∙ go j (omega arith) (ℕ-discrete j i)))
+    where
+      go : (j : ℕ) → j ≤ mostSlots → Dec (j ≡ i) → cond (eqb j i || member j l) 1 0 ≡ at (set (marked l) i 1) j
+      go j lj (yes e) =
+          rw (eq-eqb j i e)
+          (sym (ap (at (set (marked l) i 1)) e ∙ getD-set-same (marked l) i 1 0 (rw marked-length (omega arith))))
+      go j lj (no ne) = rw (ne-eqb j i ne) (sym (getD-set-other (marked l) i j 1 0 ne ∙ marked-at j lj))
+
+module _ (z : WordSize) (s : List ℕ) where
+  abbrev L : List ℕ
+  L = links z s
+
+  abbrev k : ℕ
+  k = slotCount z (length s)
+
+  pub record Walked (marks : List ℕ) (count last i : ℕ) : Type 0 where
+    pub upTo : count ≤ length L
+    pub links : marks ≡ marked (take count L)
+    pub end : last ≡ at (0 ∷ L) count
+    pub here : i ≡ at L count
+    pub distinct : repeats (take count L) ≡ false
+    pub within : (x : ℕ) → member x (take count L) ≡ true → (0 < x) × (x ≤ k)
+
+  pub walked-none : {marks : List ℕ} {i : ℕ} → marks ≡ replicate (mostSlots + 1) 0 → i ≡ nextIndex z s 0 → Walked marks 0 0 i
+  unfolding links
+  walked-none none e =
+      record {
+        upTo = zero-le;
+        links = none ∙ marked-none;
+        end = refl;
+        here = e ∙ met-first (nextIndex z s) (suc k) (nextIndex z s 0) (omega arith);
+        distinct = refl;
+        within = λ x h. absurd (false≢true h);
+      }
+
+  pub not-roll : (Linked z s → ⊥) → noWay ≡ wayOf z s
+  unfolding wayOf
+  not-roll never = go (isRoll z s) refl
+    where
+      go : (b : Bool) → isRoll z s ≡ b → noWay ≡ wayOf z s
+      go true e = absurd (never (linked z s e))
+      go false e = rw e
+
+  module _ (right : isRollLength z (length s) ≡ true) {marks : List ℕ} {count last i : ℕ} (w : Walked marks count last i) where
+    some-left : (i ≡ 0 → ⊥) → count < length L
+    some-left ne = go (decLt count (length L))
+      where
+        go : Dec (count < length L) → count < length L
+        go (yes h) = h
+        go (no h) = absurd (ne (w .here ∙ List·getD-eq-default L 0 {n = count} (omega arith)))
+
+    is-link : (i ≡ 0 → ⊥) → member i L ≡ true
+    is-link ne = ap (λ (x : ℕ). member x L) (w .here) ∙ member-at L count (some-left ne)
+
+    -- an index beyond the slots
+    pub walked-beyond : (i ≡ 0 → ⊥) → k < i → noWay ≡ wayOf z s
+    walked-beyond ne beyond = not-roll (λ h. omega (arith, h .within i (is-link ne) .1))
+
+    -- a slot met twice
+    pub walked-twice : (i ≡ 0 → ⊥) → i ≤ k → (at marks i ≡ 0 → ⊥) → noWay ≡ wayOf z s
+    walked-twice ne le set-is =
+        let in-marks : i ≤ mostSlots = omega (arith, sized z s right .most) in
+        let again : member i (take count L) ≡ true =
+        marked-is (take count L) i in-marks (λ e. set-is (ap (λ (m : List ℕ). at m i) (w .links) ∙ e)) in
+        let two : repeats L ≡ true = repeats-again count L (some-left ne) (ap (λ (x : ℕ). member x (take count L)) (sym (w .here)) ∙ again) in
+        not-roll (λ h. false≢true (sym (h .distinct) ∙ two))
+
+    -- one link more
+    module _ (ne : i ≡ 0 → ⊥) (le : i ≤ k) (clear : at marks i ≡ 0) where
+      in-marks : i ≤ mostSlots
+      in-marks = omega (arith, sized z s right .most)
+
+      fresh : member i (take count L) ≡ false
+      fresh = unmarked (take count L) i in-marks (ap (λ (m : List ℕ). at m i) (sym (w .links)) ∙ clear)
+
+      longer : take (count + 1) L ≡ take count L ++ i ∷ []
+      longer = rw add-one (take-suc L count 0 (some-left ne) ∙ ap (λ (x : ℕ). take count L ++ x ∷ []) (sym (w .here)))
+
+      distinct-more : repeats (take (count + 1) L) ≡ false
+      distinct-more = ap repeats longer ∙ repeats-snoc i (take count L) (w .distinct) fresh
+
+      within-more : (x : ℕ) → member x (take (count + 1) L) ≡ true → (0 < x) × (x ≤ k)
+      within-more x h =
+          ⊎-elim (λ e. (links-some z s x (member-take x (count + 1) L h), omega arith)) (w .within x)
+          (member-cases x i (take count L) (sym (member-snoc x i (take count L)) ∙ ap (member x) (sym longer) ∙ h))
+
+      -- as many as there are slots at most
+      pub walked-few : count < k
+      walked-few =
+          omega (
+            arith,
+            distinct-few k (take (count + 1) L) distinct-more within-more,
+            length-take-le (count + 1) L (omega (arith, some-left ne)),
+          )
+
+      next-here : (next : ℕ) → next ≡ nextIndex z s i → next ≡ at L (count + 1)
+      unfolding links
+      next-here next e =
+          e ∙ ap (nextIndex z s) (w .here)
+          ∙ met-next (nextIndex z s) (suc k) (nextIndex z s 0) count (some-left ne) (omega (arith, walked-few))
+          ∙ ap (at L) (sym (add-one count))
+
+      pub walked-more : (next : ℕ) → next ≡ nextIndex z s i → Walked (set marks i 1) (count + 1) i next
+      walked-more next e =
+          record {
+            upTo = omega (arith, some-left ne);
+            links = ap (λ (m : List ℕ). set m i 1) (w .links) ∙ marked-more (take count L) i in-marks ∙ ap marked (sym longer);
+            end = w .here ∙ ap (at (0 ∷ L)) (sym (add-one count));
+            here = next-here next e;
+            distinct = distinct-more;
+            within = within-more;
+          }
+
+    -- the end of the way
+    module _ (none : i ≡ 0) where
+      all-met : count ≡ length L
+      all-met = go (decLt count (length L))
+        where
+          go : Dec (count < length L) → count ≡ length L
+          go (yes h) = absurd (omega (arith, links-some z s (at L count) (member-at L count h), w .here))
+          go (no h) = omega (arith, w .upTo)
+
+      whole : take count L ≡ L
+      whole = take-all count L (omega (arith, all-met))
+
+      is-roll : isRoll z s ≡ true
+      unfolding isRoll
+      is-roll =
+          let d : repeats L ≡ false = ap repeats (sym whole) ∙ w .distinct in
+          let u : allUpTo k L ≡ true = all-up-to k L (λ x h. w .within x (ap (member x) whole ∙ h) .1) in
+          rw (right, u, d)
+
+      pub walked-all : (slots : ℕ) → slots ≡ k
+          → _≡_ {A = Way} (record { form = true; slots = slots; count = count; last = last; marks = marks }) (wayOf z s)
+      unfolding wayOf leadTo
+      walked-all slots e =
+          rw is-roll
+          (λ d. record {
+            form = true;
+            slots = e d;
+            count = all-met d;
+            last = (w .end ∙ ap (at (0 ∷ L)) all-met) d;
+            marks = (w .links ∙ ap marked whole) d;
+          })
+
+-- what is known of a roll, and of one with a checkpoint more
+module _ (z : WordSize) (ok : Octets z) (s : List ℕ) (is : isRoll z s ≡ true) where
+  abbrev pub known : Way
+  known =
+      record {
+        form = true; slots = slotCount z (length s); count = length (links z s); last = leadTo z s (length (links z s)); marks = marked (links z s);
+      }
+
+  pub way-is : wayOf z s ≡ known
+  unfolding wayOf
+  way-is = rw is
+
+  way-laid : (t : List ℕ) → Chain z t → length (links z s) < slotCount z (length s)
+      → _≡_ {A = Way}
+      (record { form = true; slots = slotCount z (length s); count = length (links z s) + 1; last = taken z s; marks = set (marked (links z s)) (taken z s) 1 })
+      (wayOf z (laid z t s))
+  unfolding wayOf leadTo
+  way-laid t chain room =
+      let i : ℕ = taken z s in
+      let l : List ℕ = links z s in
+      let e : links z (laid z t s) ≡ l ++ i ∷ [] = laid-links z ok s is room t chain in
+      let more : length (l ++ i ∷ []) ≡ length l + 1 = length-append l (i ∷ []) in
+      let le : i ≤ mostSlots = omega (arith, taken-within z ok s is room t chain .1, sized z s (linked z s is .right) .most) in
+      rw (laid-roll z ok s is room t chain, e, laid-size z ok s is room t chain, more)
+      (λ d. record {
+        form = true;
+        slots = slotCount z (length s);
+        count = length l + 1;
+        last = sym (ap (at (0 ∷ l ++ i ∷ [])) (add-one (length l)) ∙ getD-at l i [] 0 (length l) refl) d;
+        marks = marked-more l i le d;
+      })
+
+  pub way-more : (t : List ℕ) → Chain z t → length (links z s) < slotCount z (length s) → {y : Way} {i : ℕ} → y ≡ known → i ≡ taken z s
+      → _≡_ {A = Way} (record { form = y .form; slots = y .slots; count = y .count + 1; last = i; marks = set (y .marks) i 1 }) (wayOf z (laid z t s))
+  way-more t chain room {y} {i} is chosen =
+      ap₂ (λ (x : Way) (j : ℕ). record { form = x .form; slots = x .slots; count = x .count + 1; last = j; marks = set (x .marks) j 1 }) is chosen
+      ∙ way-laid t chain room
+
+-- what is known of any buffer: whether it is a roll, and how many links a roll has
+module _ (z : WordSize) (s : List ℕ) {y : Way} (known : y ≡ wayOf z s) where
+  pub way-form : y .form ≡ isRoll z s
+  unfolding wayOf noWay
+  way-form = ap (λ (x : Way). x .form) known ∙ go (isRoll z s)
+    where
+      go : (b : Bool) → cond b (record {
+        form = true; slots = slotCount z (length s); count = length (links z s); last = leadTo z s (length (links z s)); marks = marked (links z s)
+      }) noWay .form ≡ b
+      go true = refl
+      go false = refl
+
+  pub way-count : isRoll z s ≡ true → y .count ≡ length (links z s)
+  unfolding wayOf
+  way-count is = ap (λ (x : Way). x .count) known ∙ rw is
+
+-- each slot on the way leads to the next
+pub lead-next : (z : WordSize) (s : List ℕ) → Linked z s → (m : ℕ) → m < length (links z s) → nextIndex z s (leadTo z s m) ≡ leadTo z s (m + 1)
+unfolding leadTo links
+lead-next z s h zero lt = met-first (nextIndex z s) (suc (slotCount z (length s))) (nextIndex z s 0) (omega arith)
+lead-next z s h (suc m) lt =
+    met-next (nextIndex z s) (suc (slotCount z (length s))) (nextIndex z s 0) m (omega arith) (omega (arith, h .few))
+    ∙ ap (at (0 ∷ links z s)) (sym (add-one (suc m)))

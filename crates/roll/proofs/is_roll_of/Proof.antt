@@ -1,0 +1,27 @@
+-- `roll::is_roll_of` meets its contract: a way that is none has no form. Assumes nothing.
+use mathlib.Core.Path.{_≡_, refl, sym, ap, ap₂, _∙_}
+use mathlib.Core.Bool.{Bool, true, false, _&&_}
+use mathlib.Core.List.{List}
+use Prim.Native.Nat.{ℕ}
+use lib.Dec.{eqb}
+use borrow.Author.Needs.{needs}
+use borrow.Author.Tests.{not-true, not-false}
+use Rattle.lsh.specs.WordSize.{WordSize, sizeOf}
+use Rattle.roll.specs.declared.Way.{Way}
+use Rattle.roll.specs.Roll.{links, isRoll, checkpoints, isRollOf}
+use Rattle.roll.specs.Way.{noWay, wayOf}
+use Rattle.roll.proofs.Walked.{way-form, way-count}
+use Rattle.roll.proofs.is_roll_of.Statement.{statement}
+use Rattle.roll.proofs.is_roll_of.Tie as tie
+
+pub is-roll-of-spec : {M : Type 1} → statement M
+unfolding isRollOf
+is-roll-of-spec =
+    tie.close
+    (tie.spec
+    (λ c s is. rw (sym (way-form _ s is) ∙ not-true _ (c .if1 .taken)))
+    (λ c κs. search needs)
+    (λ c s is.
+    let r = c .before .before .before .args .r in
+    let form : isRoll (sizeOf (r .w)) s ≡ true = sym (way-form _ s is) ∙ not-false _ (c .before .if1 .left) in
+    rw (form, way-count _ s is form, c .checkpoints .ensures)))

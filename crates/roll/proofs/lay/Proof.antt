@@ -1,0 +1,118 @@
+-- `roll::lay` meets its contract. Assumes nothing.
+use mathlib.Core.Path.{_≡_, sym, ap, ap₂, _∙_, subst}
+use mathlib.Core.Bool.{true}
+use mathlib.Core.List.{List}
+use Prim.Native.Nat.{ℕ, _≤_, _<_}
+use native.Mathlib.Nat.{le-refl}
+use native.Mathlib.Omega.{arith}
+use lib.ListN.{length}
+use borrow.Author.Needs.{needs}
+use Rattle.lsh.specs.WordSize.{WordSize, sizeOf}
+use Rattle.lsh.proofs.Bytes.{Octets, octets}
+use Rattle.roll.specs.declared.Way.{Way}
+use Rattle.roll.specs.Slots.{mostSlots, slotCount, isRollLength}
+use Rattle.roll.specs.Roll.{links}
+use Rattle.roll.specs.FreeSlot.{freeSlot}
+use Rattle.roll.specs.Checkpoints.{withIndex, withSlot, leadTo, taken, laid}
+use Rattle.roll.specs.Way.{marked, wayOf}
+use Rattle.roll.proofs.Form.{Linked, linked, Sized, sized}
+use Rattle.roll.proofs.Shown.{lead-in, taken-within}
+use Rattle.roll.proofs.Writes.{slot-size}
+use Rattle.roll.proofs.Walked.{known, way-is, way-more}
+use Rattle.roll.proofs.lay.Statement.{statement}
+use Rattle.roll.proofs.lay.Tie as tie
+
+module _ (z : tie.Start) where
+  abbrev Z : WordSize
+  Z = sizeOf (z .args .w)
+
+  abbrev S : List ℕ
+  S = z .args .roll .now
+
+  ok : Octets Z
+  ok = octets (z .args .w)
+
+  have : Linked Z S
+  have = linked Z S (z .pre .2)
+
+  sizes : Sized Z S
+  sizes = sized Z S (have .right)
+
+
+  way : z .args .y ≡ known Z ok S (z .pre .2)
+  way = z .pre .3 ∙ way-is Z ok S (z .pre .2)
+
+  slots : z .args .y .slots ≡ slotCount Z (length S)
+  slots = ap (λ (y : Way). y .slots) way
+
+  count : z .args .y .count ≡ length (links Z S)
+  count = ap (λ (y : Way). y .count) way
+
+  last : z .args .y .last ≡ leadTo Z S (length (links Z S))
+  last = ap (λ (y : Way). y .last) way
+
+  room : length (links Z S) < slotCount Z (length S)
+  room = omega (arith, z .pre .4, slots, count)
+
+  within : (0 < taken Z S) × (taken Z S ≤ slotCount Z (length S))
+  within = taken-within Z ok S (z .pre .2) room (z .args .t) (z .pre .1)
+
+free-is : (c : tie.After-free-slot) → c .free-slot .result ≡ taken (Z (c .before .before .before)) (S (c .before .before .before))
+unfolding taken
+free-is c =
+    let z = c .before .before .before in
+    c .free-slot .ensures (links (Z z) (S z)) (ap (λ (y : Way). y .marks) (way z)) ∙ ap (λ (k : ℕ). freeSlot k (links (Z z) (S z))) (slots z)
+
+free-in : (c : tie.After-free-slot) → (0 < c .free-slot .result) × (c .free-slot .result ≤ slotCount (Z (c .before .before .before)) (length (S (c .before .before .before))))
+free-in c = rw (free-is c) (within (c .before .before .before))
+
+-- the roll with the slot written is as long
+written : (c : tie.After-put-slot) → length (c .put-slot .last .1 .0) ≡ length (S (c .before .before .before .before .before))
+written c =
+    let f = c .before .before in
+    let z = f .before .before .before in
+    ap length (c .put-slot .ensures)
+    ∙ slot-size (Z z) (ok z) (slotCount (Z z) (length (S z))) (S z) (sizes z .size) (f .free-slot .result) (free-in f .1) (free-in f .0) (z .args .t) (z .pre .1)
+
+laid-is : (z : WordSize) (s t : List ℕ) {u : List ℕ} {l i : ℕ} → u ≡ withSlot z s i t → l ≡ leadTo z s (length (links z s)) → i ≡ taken z s
+    → withIndex z u l i ≡ laid z t s
+unfolding laid
+laid-is z s t slot last chosen = rw (slot, last, chosen)
+
+returns : tie.Need-returns
+returns c =
+    let p = c .before .before .before in
+    let s = p .before .before .before .before in
+    let f = s .before .before in
+    let z = f .before .before .before in
+    let bytes : p .put-index .last .1 .0 ≡ laid (Z z) (z .args .t) (S z) =
+    p .put-index .ensures ∙ laid-is (Z z) (S z) (z .args .t) (s .put-slot .ensures) (last z) (free-is f) in (
+      bytes,
+      c .with-link .ensures ∙ way-more (Z z) (ok z) (S z) (z .pre .2) (z .args .t) (z .pre .1) (room z) (way z) (free-is f) ∙ ap (wayOf (Z z)) (sym bytes),
+    )
+
+pub lay-spec : {M : Type 1} → statement M
+lay-spec =
+    tie.close
+    (tie.spec
+    (λ c κs. let z = c .before .before in omega (arith, slots z, sizes z .most))
+    (λ c κs. let z = c .before .before .before .before in (z .pre .0, z .pre .1, have z .right, free-in (c .before) .0, free-in (c .before) .1))
+    (λ c κs.
+    let s = c .before .before .before in
+    let f = s .before .before in
+    let z = f .before .before .before in (
+      rw (written s) (have z .right),
+      omega (
+        arith,
+        last z,
+        ap (slotCount (Z z)) (written s),
+        lead-in (Z z) (ok z) (S z) (z .pre .2) (length (links (Z z) (S z))) (le-refl (length (links (Z z) (S z)))),
+      ),
+      omega (arith, free-in f .1, sizes z .most),
+    ))
+    (λ c κs.
+    let f = c .before .before .before .before .before .before .before .before in
+    let z = f .before .before .before in
+    (omega (arith, free-in f .1, sizes z .most), omega (arith, count z, room z, sizes z .most)))
+    (λ c. search needs)
+    returns)

@@ -1,0 +1,52 @@
+-- A roll of checkpoints: slots that are linked from the head on, each with a chain.
+-- Assumes nothing.
+use mathlib.Core.Bool.{Bool, not, cond, _&&_}
+use mathlib.Core.List.{List, [], _∷_, map}
+use Prim.Native.Nat.{ℕ, zero, suc, _/_}
+use lib.Dec.{eqb}
+use lib.ListN.{length, drop, replicate}
+use Rattle.lsh.specs.WordSize.{WordSize, sizeOf, blockBytes}
+use Rattle.lsh.specs.Bytes.{wordAt, wordsOf}
+use Rattle.record.specs.declared.Record.{Record}
+use Rattle.roll.specs.Slots.{indexBytes, rollBytes, slotCount, isRollLength, indexPlace, chainPlace}
+use Rattle.roll.specs.Members.{repeats, allUpTo}
+
+-- a new roll of k slots
+unfoldable pub newRoll : WordSize → ℕ → List ℕ
+newRoll z k = replicate (rollBytes z k) 0
+
+-- the index that leads on from slot i; 0 is the head
+unfoldable pub nextIndex : WordSize → List ℕ → ℕ → ℕ
+nextIndex z s i = wordAt indexBytes s (indexPlace z i)
+
+-- the slots met from index i on, where next leads from each, n of them at most; index 0 ends the way
+abbrev pub met : (ℕ → ℕ) → ℕ → ℕ → List ℕ
+met next zero i = []
+met next (suc n) i = cond (eqb i 0) [] (i ∷ met next n (next i))
+
+-- the slots met on the way from the head. A way that meets one more than there are has met one of them twice, or an index beyond them
+unfoldable pub links : WordSize → List ℕ → List ℕ
+links z s = met (nextIndex z s) (suc (slotCount z (length s))) (nextIndex z s 0)
+
+-- the chain of slot i, and the chains that the roll shows, in the order of its links
+unfoldable pub chainIn : WordSize → List ℕ → ℕ → List ℕ
+chainIn z s i = wordsOf z 16 (drop (chainPlace z i) s)
+
+unfoldable pub shown : WordSize → List ℕ → List (List ℕ)
+shown z s = map (chainIn z s) (links z s)
+
+-- a buffer of right length, with no index beyond the slots and no slot met twice on the way from the head
+unfoldable pub isRoll : WordSize → List ℕ → Bool
+isRoll z s = isRollLength z (length s) && allUpTo (slotCount z (length s)) (links z s) && not (repeats (links z s))
+
+-- a checkpoint is laid at every 64th block
+abbrev pub spacing : ℕ
+spacing = 64
+
+-- how many checkpoints an order of so many bytes has: one for every 64 of its whole blocks
+unfoldable pub checkpoints : ℕ → ℕ → ℕ
+checkpoints w total = total / blockBytes (sizeOf w) / spacing
+
+-- a roll of the record: it has a link for each of the record's checkpoints. If not, the answer is 15
+unfoldable pub isRollOf : Record → List ℕ → Bool
+isRollOf r s = isRoll (sizeOf (r .w)) s && eqb (length (links (sizeOf (r .w)) s)) (checkpoints (r .w) (r .total))

@@ -1,0 +1,33 @@
+-- What the code keeps of a roll while it lays checkpoints: its form, how many slots it has and how many of them are linked, the last link, and
+-- a mark for each linked slot.
+-- Assumes nothing.
+use mathlib.Core.Bool.{true, false, cond}
+use mathlib.Core.List.{List}
+use Prim.Native.Nat.{ℕ, _+_}
+use lib.ListN.{length, replicate}
+use Rattle.lsh.specs.Tabulate.{tabulate}
+use Rattle.lsh.specs.WordSize.{WordSize}
+use Rattle.roll.specs.declared.Way.{Way}
+use Rattle.roll.specs.Slots.{mostSlots, slotCount}
+use Rattle.roll.specs.Members.{member}
+use Rattle.roll.specs.Roll.{links, isRoll}
+use Rattle.roll.specs.Checkpoints.{leadTo}
+
+-- 1 at the place of each number of the list
+unfoldable pub marked : List ℕ → List ℕ
+marked l = tabulate (mostSlots + 1) (λ i. cond (member i l) 1 0)
+
+unfoldable pub noWay : Way
+noWay = record { form = false; slots = 0; count = 0; last = 0; marks = replicate (mostSlots + 1) 0 }
+
+unfoldable pub wayOf : WordSize → List ℕ → Way
+wayOf z s =
+    cond (isRoll z s)
+    (record {
+      form = true;
+      slots = slotCount z (length s);
+      count = length (links z s);
+      last = leadTo z s (length (links z s));
+      marks = marked (links z s);
+    })
+    noWay
