@@ -25,12 +25,15 @@ module _ (r : Record) (long : length (r .held) ≡ longestBlock) where
   pub total-is : (p : List ℕ) → r .total + length p ≡ r .total / B * B + length (heldBytes r ++ p)
   total-is p = omega (arith, div-add-mod' (r .total) B, held-length r long, length-append (heldBytes r) p)
 
+  -- as many bytes are held then as are left of that string
+  pub rest-length : (p : List ℕ) → (r .total + length p) % B ≡ length (restOf (sizeOf (r .w)) (heldBytes r ++ p))
+  rest-length p =
+      ap (λ (n : ℕ). n % B) (total-is p)
+      ∙ mul-add-mod-self-right (r .total / B) B (length (heldBytes r ++ p))
+      ∙ sym (length-rest (sizeOf (r .w)) (block-some (r .w)) (heldBytes r ++ p))
+
   pub held-after : (p : List ℕ) → heldBytes (appended r p) ≡ restOf (sizeOf (r .w)) (heldBytes r ++ p)
   unfolding heldBytes appended heldOf
   held-after p =
       let rest : List ℕ = restOf (sizeOf (r .w)) (heldBytes r ++ p) in
-      let size : (r .total + length p) % B ≡ length rest =
-      ap (λ (n : ℕ). n % B) (total-is p)
-      ∙ mul-add-mod-self-right (r .total / B) B (length (heldBytes r ++ p))
-      ∙ sym (length-rest (sizeOf (r .w)) (block-some (r .w)) (heldBytes r ++ p)) in
-      take-at rest (replicate (longestBlock - length rest) 0) ((r .total + length p) % B) (sym size)
+      take-at rest (replicate (longestBlock - length rest) 0) ((r .total + length p) % B) (sym (rest-length p))

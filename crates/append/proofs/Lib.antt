@@ -2,3 +2,4 @@
 pub mod Held
 pub mod Appending
 pub mod Joins
+pub mod Sound

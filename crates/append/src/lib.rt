@@ -28,16 +28,24 @@ pub fn append(r: Record, piece: &[u8]) -> Outcome
         return record::refused(3, r);
     }
     let total = r.total;
-    let w = r.w;
-    let len = piece.len();
-    if runs::LIMIT as u64 - total < len as u64 {
+    if runs::LIMIT as u64 - total < piece.len() as u64 {
         return record::refused(5, r);
     }
+    accepted(r, piece)
+}
+
+// The answer where the tests are passed.
+pub fn accepted(r: Record, piece: &[u8]) -> Outcome
+    requires { ⌜ (sound r ≡ true) × (r .total + length (now piece) ≤ limit) ⌝ }
+    ensures { λ o. ⌜ o ≡ appendAccepted r (now (piece .entry)) ⌝ }
+{
+    let total = r.total;
+    let w = r.w;
     let at = record::held_length(w, total);
     if at == 0 {
         return append_even(r, piece);
     }
-    if at + len < runs::block_bytes(w) {
+    if at + piece.len() < runs::block_bytes(w) {
         return append_short(r, piece);
     }
     append_long(r, piece)

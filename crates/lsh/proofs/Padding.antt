@@ -32,7 +32,8 @@ pub firstBlocks-more : (z : WordSize) (k : ℕ) (s : List ℕ) → firstBlocks z
 unfolding firstBlocks
 firstBlocks-more z k s = ap (λ (n : ℕ). firstBlocks z n s) (sym (add-one k)) ∙ firstBlocks-add z k 1 s
 
-firstBlocks-front : (z : WordSize) (k : ℕ) (s p : List ℕ) → k * blockBytes z ≤ length s → firstBlocks z k (s ++ p) ≡ firstBlocks z k s
+-- the first blocks of two strings joined, where the first has them all
+pub firstBlocks-front : (z : WordSize) (k : ℕ) (s p : List ℕ) → k * blockBytes z ≤ length s → firstBlocks z k (s ++ p) ≡ firstBlocks z k s
 unfolding firstBlocks
 firstBlocks-front z zero s p h = refl
 firstBlocks-front z (suc k) s p h =

@@ -16,7 +16,7 @@ use Rattle.runs.specs.Limits.{isDigestLength, limit}
 use Rattle.record.specs.declared.Record.{Record}
 use Rattle.record.specs.Record.{allBelow, allZero, sound}
 use Rattle.lsh.proofs.Tests.{and-true}
-use Rattle.record.proofs.Lists.{at-below}
+use Rattle.record.proofs.Lists.{at-below, all-below}
 
 pub record Sound (r : Record) : Type 0 where
   pub word : isWordSize (r .w) ≡ true
@@ -47,10 +47,13 @@ sounds r e =
 some-words : (w : ℕ) → isWordSize w ≡ true → 0 < 2 ^ w
 some-words = by-size (λ (w : ℕ). 0 < 2 ^ w) (omega arith) (omega arith)
 
--- 16 words below 2 ^ w are a chain
+-- 16 words below 2 ^ w are a chain, and a chain's words are below 2 ^ w
 pub chain-is : (w : ℕ) (t : List ℕ) → isWordSize w ≡ true → length t ≡ 16 → allBelow (2 ^ w) t ≡ true → Chain (sizeOf w) t
 chain-is w t e words below =
     record {
       words = words;
       below = λ l. subst (λ (v : ℕ). at t l < 2 ^ v) (sym (bits-are w e)) (at-below (2 ^ w) t (some-words w e) below l);
     }
+
+pub chain-below : (w : ℕ) (t : List ℕ) → isWordSize w ≡ true → Chain (sizeOf w) t → allBelow (2 ^ w) t ≡ true
+chain-below w t e chain = all-below (2 ^ w) t (λ l. subst (λ (v : ℕ). at t l < 2 ^ v) (bits-are w e) (chain .below l))

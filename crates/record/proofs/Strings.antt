@@ -1,30 +1,34 @@
 -- The record of a byte string within the limit is sound, it holds the bytes after the last whole block, and that of no bytes is what Open makes.
 -- Assumes nothing.
-use mathlib.Core.Path.{_≡_, refl, ap, _∙_, subst}
+use mathlib.Core.Path.{_≡_, refl, ap, _∙_}
 use mathlib.Core.Bool.{true}
 use mathlib.Core.List.{List, []}
-use Prim.Native.Nat.{ℕ, zero, suc, _-_, _%_, _^_, _≤_, _<_}
+use Prim.Native.Nat.{ℕ, zero, suc, _-_, _%_, _^_, _≤_}
 use native.Mathlib.Nat.{zero-mul, zero-div}
 use borrow.Author.Tests.{le-leb}
 use lib.ListN.{length, drop, replicate}
 use lib.Seq.{take-at, drop-at}
-use Rattle.lsh.specs.Tabulate.{at}
 use Rattle.lsh.specs.WordSize.{WordSize, isWordSize, sizeOf, blockBytes}
 use Rattle.lsh.specs.Block.{Chain, forwards}
 use Rattle.lsh.specs.Opening.{opening}
 use Rattle.lsh.specs.Padding.{firstBlocks, blocksOf, restOf}
-use Rattle.lsh.proofs.Figures.{amounts, bits-are, block-some}
+use Rattle.lsh.proofs.Figures.{amounts, block-some}
 use Rattle.lsh.proofs.Blocks.{forwards-chain}
 use Rattle.lsh.proofs.Opening.{opening-chain}
 use Rattle.lsh.proofs.Padding.{length-rest}
 use Rattle.runs.specs.Limits.{longestBlock, isDigestLength, limit}
 use Rattle.record.specs.Record.{heldOf, allBelow, allZero, sound, heldBytes, recordOf}
 use Rattle.record.specs.Open.{opened}
-use Rattle.record.proofs.Lists.{all-below}
+use Rattle.record.proofs.Sound.{chain-below}
 
 pub all-zero : (k : ℕ) → allZero (replicate k 0) ≡ true
 all-zero zero = refl
 all-zero (suc k) = all-zero k
+
+-- the bytes after those held are 0
+pub zero-after : (s : List ℕ) (k : ℕ) → length s ≡ k → allZero (drop k (heldOf s)) ≡ true
+unfolding heldOf
+zero-after s k size = ap allZero (drop-at s (replicate (longestBlock - length s) 0) k size) ∙ all-zero (longestBlock - length s)
 
 module _ (w n : ℕ) (m : List ℕ) (word : isWordSize w ≡ true) where
   abbrev Z : WordSize
@@ -37,7 +41,7 @@ module _ (w n : ℕ) (m : List ℕ) (word : isWordSize w ≡ true) where
   chain-is = forwards-chain Z (amounts w) (blocksOf Z m) (opening Z n) (opening-chain w n)
 
   below : allBelow (2 ^ w) chain ≡ true
-  below = all-below (2 ^ w) chain (λ l. subst (λ (v : ℕ). at chain l < 2 ^ v) (bits-are w word) (chain-is .below l))
+  below = chain-below w chain word chain-is
 
   size : length (restOf Z m) ≡ length m % blockBytes Z
   size = length-rest Z (block-some w) m
@@ -46,15 +50,9 @@ module _ (w n : ℕ) (m : List ℕ) (word : isWordSize w ≡ true) where
   unfolding heldBytes recordOf heldOf
   held-record = take-at (restOf Z m) (replicate (longestBlock - length (restOf Z m)) 0) (length m % blockBytes Z) size
 
-  zero-after : allZero (drop (length m % blockBytes Z) (heldOf (restOf Z m))) ≡ true
-  unfolding heldOf
-  zero-after =
-      ap allZero (drop-at (restOf Z m) (replicate (longestBlock - length (restOf Z m)) 0) (length m % blockBytes Z) size)
-      ∙ all-zero (longestBlock - length (restOf Z m))
-
   pub record-sound : isDigestLength w n ≡ true → length m ≤ limit → sound (recordOf w n m) ≡ true
   unfolding sound recordOf
-  record-sound digest few = rw (word, digest, le-leb (length m) limit few, below) zero-after
+  record-sound digest few = rw (word, digest, le-leb (length m) limit few, below) (zero-after (restOf Z m) (length m % blockBytes Z) size)
 
 -- the record of no bytes is that of a new order
 pub record-none : (w n : ℕ) → recordOf w n [] ≡ opened w n

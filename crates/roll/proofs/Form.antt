@@ -10,13 +10,14 @@ use lib.Dec.{eqb, leb}
 use lib.ListN.{length, replicate, length-replicate}
 use borrow.Author.Tests.{eqb-true, leb-true, not-true, le-leb, eq-eqb}
 use Rattle.lsh.specs.Tabulate.{at}
-use Rattle.lsh.specs.WordSize.{WordSize}
+use Rattle.lsh.specs.WordSize.{WordSize, sizeOf}
 use Rattle.lsh.specs.Bytes.{wordAt}
 use Rattle.lsh.proofs.Tests.{and-true}
 use Rattle.lsh.proofs.Opening.{at-zeros}
+use Rattle.record.specs.declared.Record.{Record}
 use Rattle.roll.specs.Slots.{indexBytes, mostSlots, slotBytes, rollBytes, slotCount, isRollLength, indexPlace}
 use Rattle.roll.specs.Members.{member, repeats, allUpTo}
-use Rattle.roll.specs.Roll.{newRoll, nextIndex, met, links, isRoll, shown}
+use Rattle.roll.specs.Roll.{newRoll, nextIndex, links, isRoll, checkpoints, isRollOf}
 use Rattle.roll.proofs.Members.{each-up-to, all-up-to, distinct-few}
 use Rattle.roll.proofs.Ways.{Leads, met-leads, leads-met, met-some}
 
@@ -112,3 +113,12 @@ module _ (z : WordSize) where
 
     pub new-slots : slotCount z (length (newRoll z k)) ≡ k
     new-slots = ap (slotCount z) new-size ∙ slots-are
+
+-- a roll of a record: it is a roll, with a link for each of the record's checkpoints
+pub roll-of : (r : Record) (s : List ℕ) → isRollOf r s ≡ true
+    → (isRoll (sizeOf (r .w)) s ≡ true) × (length (links (sizeOf (r .w)) s) ≡ checkpoints (r .w) (r .total))
+unfolding isRollOf
+roll-of r s e =
+    let z : WordSize = sizeOf (r .w) in
+    let p = and-true (isRoll z s) (eqb (length (links z s)) (checkpoints (r .w) (r .total))) e in
+    (p .0, eqb-true (length (links z s)) (checkpoints (r .w) (r .total)) (p .1))

@@ -7,3 +7,4 @@ pub mod Form
 pub mod Shown
 pub mod Sizes
 pub mod Walked
+pub mod Spacing

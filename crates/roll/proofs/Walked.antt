@@ -264,6 +264,10 @@ module _ (z : WordSize) (s : List ℕ) {y : Way} (known : y ≡ wayOf z s) where
   unfolding wayOf
   way-count is = ap (λ (x : Way). x .count) known ∙ rw is
 
+  pub way-slots : isRoll z s ≡ true → y .slots ≡ slotCount z (length s)
+  unfolding wayOf
+  way-slots is = ap (λ (x : Way). x .slots) known ∙ rw is
+
 -- each slot on the way leads to the next
 pub lead-next : (z : WordSize) (s : List ℕ) → Linked z s → (m : ℕ) → m < length (links z s) → nextIndex z s (leadTo z s m) ≡ leadTo z s (m + 1)
 unfolding leadTo links

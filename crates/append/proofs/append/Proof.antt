@@ -2,16 +2,14 @@
 use mathlib.Core.Path.{_≡_, sym, _∙_}
 use mathlib.Core.Bool.{true}
 use Prim.Native.Nat.{_+_, _≤_, _<_}
-use native.Mathlib.Nat.{mod-le}
 use native.Mathlib.Omega.{arith}
 use lib.ListN.{length}
 use borrow.Author.Needs.{needs}
 use borrow.Author.Tests.{lt-ltb, le-ltb, not-true, not-false}
-use Rattle.lsh.specs.WordSize.{sizeOf, blockBytes}
 use Rattle.runs.specs.Limits.{limit}
 use Rattle.record.specs.Record.{sound}
 use Rattle.record.proofs.Sound.{Sound, sounds}
-use Rattle.append.specs.Append.{appendAccepted, appendCall}
+use Rattle.append.specs.Append.{appendCall}
 use Rattle.append.proofs.append.Statement.{statement}
 use Rattle.append.proofs.append.Tie as tie
 
@@ -27,16 +25,6 @@ within : (c : tie.Else2) → c .before .before .before .before .args .r .total +
 unfolding limit
 within c = omega (arith, is-sound (c .before) .few, c .if2 .left)
 
-accepted : (c : tie.Else2)
-    → appendCall (c .before .before .before .before .args .r) (c .before .before .before .before .args .piece .now)
-    ≡ appendAccepted (c .before .before .before .before .args .r) (c .before .before .before .before .args .piece .now)
-unfolding appendCall
-accepted c = rw (sound-is (c .before), le-ltb _ _ (within c))
-
-returns : tie.Need-returns
-unfolding appendCall
-returns c = c .refused .ensures ∙ rw (sym (c .before .before .is-sound .ensures) ∙ not-true _ (c .before .if1 .taken))
-
 sub-if2 : tie.Need-sub-if2
 unfolding limit
 sub-if2 c = is-sound c .few
@@ -48,28 +36,16 @@ returns-2 c =
     let over : limit < a .r .total + length (a .piece .now) = omega (arith, is-sound (c .before .before) .few, c .before .if2 .taken) in
     c .refused2 .ensures ∙ rw (sound-is (c .before .before), lt-ltb _ _ over)
 
-add-if4 : tie.Need-add-if4
-unfolding limit
-add-if4 c =
-    let r = c .before .before .before .before .before .before .args .r in
-    record { fits = omega (arith, within (c .before .before), mod-le (r .total) (blockBytes (sizeOf (r .w)))) }
-
 pub append-spec : {M : Type 1} → statement M
+unfolding appendCall
 append-spec =
     tie.close
     (tie.spec
     (λ c κs. search needs)
     (λ c κs. search needs)
-    returns
+    (λ c. c .refused .ensures ∙ rw (sym (c .before .before .is-sound .ensures) ∙ not-true _ (c .before .if1 .taken)))
     sub-if2
     (λ c κs. search needs)
     returns-2
-    (λ c κs. search needs)
-    (λ c κs. let e = c .before .before in (sound-is (e .before), within e, sym (c .before .held-length .ensures) ∙ c .if3 .taken))
-    (λ c. c .append-even .ensures ∙ sym (accepted (c .before .before .before)))
-    add-if4
-    (λ c κs. search needs)
-    (λ c κs. let e = c .before .before .before .before in (sound-is (e .before), within e, omega arith))
-    (λ c. c .append-short .ensures ∙ sym (accepted (c .before .before .before .before .before)))
-    (λ c κs. let e = c .before .before .before .before in (sound-is (e .before), within e, omega arith))
-    (λ c. c .append-long .ensures ∙ sym (accepted (c .before .before .before .before .before))))
+    (λ c κs. (sound-is (c .before), within c))
+    (λ c. c .accepted .ensures ∙ rw (sound-is (c .before .before), le-ltb _ _ (within (c .before)))))

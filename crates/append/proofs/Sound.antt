@@ -1,0 +1,38 @@
+-- The record after a piece within the limit is sound.
+-- Assumes nothing.
+use mathlib.Core.Path.{_≡_, sym, ap, _∙_}
+use mathlib.Core.Bool.{true}
+use mathlib.Core.List.{List, _++_}
+use Prim.Native.Nat.{ℕ, _+_, _≤_}
+use lib.ListN.{length}
+use borrow.Author.Tests.{le-leb}
+use Rattle.lsh.specs.WordSize.{WordSize, sizeOf}
+use Rattle.lsh.specs.Block.{Chain}
+use Rattle.lsh.specs.Padding.{blocksOf, restOf}
+use Rattle.lsh.proofs.Figures.{amounts}
+use Rattle.lsh.proofs.Blocks.{forwards-chain}
+use Rattle.runs.specs.Limits.{longestBlock, limit}
+use Rattle.record.specs.declared.Record.{Record}
+use Rattle.record.specs.Record.{heldBytes, sound}
+use Rattle.record.proofs.Sound.{Sound, sounds, chain-is, chain-below}
+use Rattle.record.proofs.Strings.{zero-after}
+use Rattle.append.specs.Append.{appended}
+use Rattle.append.proofs.Held.{rest-length}
+
+module _ (r : Record) (ok : sound r ≡ true) (words : length (r .chain) ≡ 16) (long : length (r .held) ≡ longestBlock) (p : List ℕ) where
+  abbrev Z : WordSize
+  Z = sizeOf (r .w)
+
+  is : Sound r
+  is = sounds r ok
+
+  pub appended-chain : Chain Z (appended r p .chain)
+  unfolding appended
+  appended-chain =
+      forwards-chain Z (amounts (r .w)) (blocksOf Z (heldBytes r ++ p)) (r .chain) (chain-is (r .w) (r .chain) (is .word) words (is .below))
+
+  pub appended-sound : r .total + length p ≤ limit → sound (appended r p) ≡ true
+  unfolding sound appended
+  appended-sound within =
+      rw (is .word, is .digestLength, le-leb (r .total + length p) limit within, chain-below (r .w) (appended r p .chain) (is .word) appended-chain)
+      (zero-after (restOf Z (heldBytes r ++ p)) _ (sym (rest-length r long p)))

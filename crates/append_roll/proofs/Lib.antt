@@ -1,0 +1,2 @@
+-- Laws of Append with a roll.
+pub mod Parts

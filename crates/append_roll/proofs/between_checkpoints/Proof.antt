@@ -1,0 +1,17 @@
+-- `append_roll::between_checkpoints` meets its contract. Assumes nothing.
+use mathlib.Core.Path.{ap}
+use Prim.Native.Nat.{ℕ, _*_}
+use native.Mathlib.Omega.{arith}
+use borrow.Author.Needs.{needs}
+use Rattle.roll.specs.Roll.{spacing}
+use Rattle.runs.proofs.Limits.{block-most}
+use Rattle.append_roll.proofs.between_checkpoints.Statement.{statement}
+use Rattle.append_roll.proofs.between_checkpoints.Tie as tie
+
+pub between-checkpoints-spec : {M : Type 1} → statement M
+between-checkpoints-spec =
+    tie.close
+    (tie.spec
+    (λ c κs. search needs)
+    (λ c. record { fits = omega (arith, c .block-bytes .ensures, block-most (c .before .args .w)) })
+    (λ c. search needs))

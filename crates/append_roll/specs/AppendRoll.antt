@@ -1,0 +1,53 @@
+-- Append with a roll: the answer's number, the count of blocks and the record that follows, and the bytes of the roll after the call.
+-- Assumes nothing.
+use mathlib.Core.Bool.{Bool, not, cond}
+use mathlib.Core.List.{List, _++_}
+use Prim.Native.Nat.{ℕ, _+_, _-_, _*_, _/_}
+use lib.Dec.{eqb, ltb}
+use lib.ListN.{length}
+use Rattle.lsh.specs.WordSize.{sizeOf, blockBytes}
+use Rattle.lsh.specs.Block.{forwards}
+use Rattle.lsh.specs.Padding.{firstBlocks}
+use Rattle.runs.specs.Limits.{limit}
+use Rattle.record.specs.declared.Record.{Record}
+use Rattle.record.specs.declared.Outcome.{Outcome}
+use Rattle.record.specs.Record.{heldBytes, sound, refused}
+use Rattle.append.specs.Append.{appendAccepted}
+use Rattle.roll.specs.Slots.{slotCount}
+use Rattle.roll.specs.Roll.{links, spacing, checkpoints, isRollOf}
+use Rattle.roll.specs.Checkpoints.{laidAfter}
+
+-- how many checkpoints are due with size bytes more
+unfoldable pub due : Record → ℕ → ℕ
+due r size = checkpoints (r .w) (r .total + size) - checkpoints (r .w) (r .total)
+
+-- the links and the checkpoints due are more than the slots
+unfoldable pub isFull : Record → ℕ → List ℕ → Bool
+isFull r size roll = ltb (slotCount (sizeOf (r .w)) (length roll)) (length (links (sizeOf (r .w)) roll) + due r size)
+
+-- by the record, the length of the piece and the roll: 3 if the record is not sound, then 15 if the roll is none of the record, 5 if the order would
+-- pass the limit, 16 if the roll has too few slots, else 0
+unfoldable pub appendRollAnswer : Record → ℕ → List ℕ → ℕ
+appendRollAnswer r size roll =
+    cond (not (sound r)) 3
+    (cond (not (isRollOf r roll)) 15
+    (cond (ltb limit (r .total + size)) 5
+    (cond (isFull r size roll) 16
+    0)))
+
+-- an accepted call answers as Append without a roll does
+unfoldable pub appendRollCall : Record → List ℕ → List ℕ → Outcome
+appendRollCall r piece roll =
+    cond (eqb (appendRollAnswer r (length piece) roll) 0) (appendAccepted r piece) (refused (appendRollAnswer r (length piece) roll) r)
+
+-- the chain of the k-th checkpoint, counted from 1: that after 64 k blocks of the order with the piece
+unfoldable pub checkpointChain : Record → List ℕ → ℕ → List ℕ
+checkpointChain r piece k =
+    forwards (sizeOf (r .w)) (firstBlocks (sizeOf (r .w)) (spacing * k - r .total / blockBytes (sizeOf (r .w))) (heldBytes r ++ piece)) (r .chain)
+
+-- the roll after the call: each checkpoint that is due is laid, in order
+unfoldable pub appendedRoll : Record → List ℕ → List ℕ → List ℕ
+appendedRoll r piece roll =
+    cond (eqb (appendRollAnswer r (length piece) roll) 0)
+    (laidAfter (sizeOf (r .w)) (checkpointChain r piece) (checkpoints (r .w) (r .total)) (due r (length piece)) roll)
+    roll

@@ -1,0 +1,2 @@
+-- Laws of Rewind with a roll.
+pub mod Rewinding

@@ -1,0 +1,38 @@
+// Rewind with a roll: the end of an order is taken back, and the checkpoints past the new end are taken off its roll.
+ghost use mathlib.Core.Path.{_≡_};
+ghost use mathlib.Core.List.{List};
+ghost use Prim.Native.Nat.{ℕ};
+ghost use Rattle.lsh.specs.WordSize.{sizeOf};
+ghost use Rattle.roll.specs.Way.{wayOf};
+ghost use Rattle.rewind_roll.specs.RewindRoll.{rewindRollCall, rewoundRoll};
+use record::Outcome;
+use record::Record;
+use roll::Way;
+
+// The record after its last bytes h were handed back and the first keep of them remain. The roll is written last, when the answer is known.
+pub fn rewind_roll(r: Record, keep: u64, h: &[u8], roll: &mut [u8]) -> Outcome
+    ensures { λ o. ⌜ (o ≡ rewindRollCall r keep (now (h .entry)) (now (roll .entry))) × (now (roll .exit) ≡ rewoundRoll r keep (now (h .entry)) (now (roll .entry))) ⌝ }
+{
+    let w = r.w;
+    let y = roll::walk(w, roll);
+    let o = outcome(r, keep, h, y);
+    if o.number != 0 {
+        return o;
+    }
+    let next = o.next;
+    roll::unlink(w, roll, y.count, roll::checkpoints(w, next.total) as usize);
+    o
+}
+
+// The answer, where y is what is known of the roll.
+fn outcome(r: Record, keep: u64, h: &[u8], y: Way) -> Outcome
+    ensures { λ o. ⌜ ((roll : List ℕ) → y ≡ wayOf (sizeOf (r .w)) roll → o ≡ rewindRollCall r keep (now (h .entry)) roll) ⌝ }
+{
+    if !record::is_sound(r) {
+        return record::refused(3, r);
+    }
+    if !roll::is_roll_of(y, r) {
+        return record::refused(15, r);
+    }
+    rewind::rewind(r, keep, h)
+}

@@ -1,0 +1,52 @@
+-- Checkpoints by the bytes of an order: one for every 64 blocks.
+-- Assumes nothing.
+use mathlib.Core.Path.{_≡_, sym, ap, _∙_}
+use Prim.Native.Nat.{ℕ, _+_, _-_, _*_, _/_, _%_, _≤_, _<_}
+use native.Mathlib.Nat.{div-div-eq-div-mul, mul-comm, mul-assoc, mul-div-cancel, div-add-mod', mod-lt, lt-of-mul-lt-mul-right}
+use native.Mathlib.Omega.{arith}
+use Rattle.lsh.specs.WordSize.{sizeOf, blockBytes}
+use Rattle.lsh.proofs.Figures.{block-some}
+use Rattle.roll.specs.Roll.{spacing, checkpoints}
+
+module _ (w : ℕ) where
+  abbrev B : ℕ
+  B = blockBytes (sizeOf w)
+
+  -- the bytes from a checkpoint to the next
+  abbrev pub step : ℕ
+  step = spacing * B
+
+  step-some : 0 < step
+  step-some = omega (arith, block-some w)
+
+  pub by-bytes : (total : ℕ) → checkpoints w total ≡ total / step
+  unfolding checkpoints
+  by-bytes total = div-div-eq-div-mul total B spacing ∙ ap (λ (n : ℕ). total / n) (mul-comm B spacing)
+
+  -- at a checkpoint
+  pub at-checkpoint : (k : ℕ) → checkpoints w (k * step) ≡ k
+  at-checkpoint k = by-bytes (k * step) ∙ mul-div-cancel k step-some
+
+  pub blocks-at : (k : ℕ) → k * step / B ≡ spacing * k
+  blocks-at k = ap (λ (n : ℕ). n / B) (sym (mul-assoc k spacing B) ∙ ap (λ (n : ℕ). n * B) (mul-comm k spacing)) ∙ mul-div-cancel (spacing * k) (block-some w)
+
+  -- a checkpoint is among those of an order exactly if the order reaches it
+  pub reached : (k b : ℕ) → k * step ≤ b → k ≤ checkpoints w b
+  reached k b le =
+      let less : k * step < (b / step + 1) * step = omega (arith, div-add-mod' b step, mod-lt b step-some) in
+      rw (by-bytes b) (omega (arith, lt-of-mul-lt-mul-right step {m = k} {n = b / step + 1} less))
+
+  pub unreached : (k b : ℕ) → b < k * step → checkpoints w b < k
+  unreached k b lt =
+      let less : b / step * step < k * step = omega (arith, div-add-mod' b step) in
+      rw (by-bytes b) (lt-of-mul-lt-mul-right step {m = b / step} {n = k} less)
+
+  -- so there are no fewer with more bytes
+  pub no-fewer : (a b : ℕ) → a ≤ b → checkpoints w a ≤ checkpoints w b
+  no-fewer a b le = reached (checkpoints w a) b (rw (by-bytes a) (omega (arith, div-add-mod' a step)))
+
+  -- what is left to the next checkpoint
+  pub to-next : (total n : ℕ) → n ≡ step - total % step → total + n ≡ (checkpoints w total + 1) * step
+  to-next total n e =
+      rw (by-bytes total, e)
+      (omega (arith, div-add-mod' total step, mod-lt total step-some))
