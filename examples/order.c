@@ -6,6 +6,7 @@
  * The calls are declared, with their answers, in lsh_kiosk.h. */
 #include <errno.h>
 #include <inttypes.h>
+#include <stdbool.h>
 #include <stdio.h>
 #include <stdlib.h>
 #include <string.h>
@@ -24,6 +25,11 @@
  * memory reads these from the pictures' files again. */
 static uint8_t *bytes;
 static size_t room;
+
+/* The roll of the order's checkpoints, a new one at first, as all static memory is zeros. An order has a roll in all its calls or in none, so
+ * one that is too long for the largest roll is kept without it. */
+static uint8_t roll[LSH_ROLL_BYTES(WORD_SIZE, LSH_MOST_SLOTS)];
+static bool has_roll;
 
 /* Where each picture begins, and where the last one ends. */
 static size_t places[LSH_MOST_RECEIPTS + 1];
@@ -106,8 +112,9 @@ static lsh_record add_picture(lsh_record order, size_t i, const char *name)
     size_t length = places[i + 1] - places[i];
     must_be_accepted(lsh_whole(WORD_SIZE, DIGEST_BITS, picture, length, 0, 0, receipts[i], LSH_RECEIPT_BYTES), "lsh_whole");
     print_receipt(receipts[i], name);
-    lsh_outcome outcome = lsh_append(order, picture, length);
-    must_be_accepted(outcome.number, "lsh_append");
+    lsh_outcome outcome =
+        has_roll ? lsh_append_roll(order, picture, length, roll, sizeof roll) : lsh_append(order, picture, length);
+    must_be_accepted(outcome.number, "Append");
     return outcome.next;
 }
 
@@ -118,8 +125,10 @@ static lsh_record cut_order(lsh_record order, size_t length)
      * the bytes of this block before the cut are kept. */
     size_t keep = length % LSH_BLOCK_BYTES(order.w);
     size_t from = length - keep;
-    lsh_outcome outcome = lsh_rewind(order, keep, bytes + from, order.total - from);
-    must_be_accepted(outcome.number, "lsh_rewind");
+    const uint8_t *h = bytes + from;
+    size_t h_len = order.total - from;
+    lsh_outcome outcome = has_roll ? lsh_rewind_roll(order, keep, h, h_len, roll, sizeof roll) : lsh_rewind(order, keep, h, h_len);
+    must_be_accepted(outcome.number, "Rewind");
     return outcome.next;
 }
 
@@ -137,6 +146,7 @@ int main(int argc, char **argv)
         places[i + 1] = read_file(argv[i + 1], places[i]);
     }
 
+    has_roll = places[count] / LSH_BLOCK_BYTES(WORD_SIZE) / LSH_CHECKPOINT_BLOCKS <= LSH_MOST_SLOTS;
     lsh_outcome opened = lsh_open(WORD_SIZE, DIGEST_BITS);
     must_be_accepted(opened.number, "lsh_open");
     lsh_record order = opened.next;

@@ -39,6 +39,8 @@ extern "C" {
 #define LSH_SHORT_OUTPUT 12u     /* an output of less than LSH_RECEIPT_BYTES bytes */
 #define LSH_NO_RECEIPTS 13u      /* not as many bytes as one receipt, or as a list of at most LSH_MOST_RECEIPTS receipts, has */
 #define LSH_MALFORMED 14u        /* a receipt that has not the form of one: see lsh_whole */
+#define LSH_BAD_ROLL 15u         /* a buffer that is no roll, or not the roll of such a record: see "an order with a roll" */
+#define LSH_FULL_ROLL 16u        /* the linked slots of the roll and the checkpoints due are together more than its slots */
 
 /* ---- figures ---- */
 
@@ -52,6 +54,19 @@ extern "C" {
 /* Bytes of a receipt, and the most receipts of a list. */
 #define LSH_RECEIPT_BYTES 68
 #define LSH_MOST_RECEIPTS 960
+
+/* A checkpoint is laid at every block whose number is a multiple of this. */
+#define LSH_CHECKPOINT_BLOCKS 64
+
+/* The most slots of a roll. Bytes of an index, of a slot and of a roll, the last two by word size. */
+#define LSH_MOST_SLOTS 255
+#define LSH_INDEX_BYTES 2
+#define LSH_SLOT_BYTES(w) (LSH_INDEX_BYTES + LSH_CHAIN_BYTES(w))
+#define LSH_ROLL_BYTES(w, slots) (LSH_INDEX_BYTES + (slots) * LSH_SLOT_BYTES(w))
+
+/* Where slot i of a roll begins, i from 1 on, and where its chain begins. */
+#define LSH_SLOT_PLACE(w, i) LSH_ROLL_BYTES(w, (i) - 1)
+#define LSH_CHAIN_PLACE(w, i) (LSH_SLOT_PLACE(w, i) + LSH_INDEX_BYTES)
 
 /* ---- records and answers with more than a number ---- */
 
@@ -133,6 +148,44 @@ lsh_outcome lsh_rewind(lsh_record r, uint64_t keep, const uint8_t *h, size_t h_l
  * Answers 0 and writes the first LSH_RECEIPT_BYTES bytes of the output, and no other; or answers LSH_UNSOUND_RECORD, LSH_BAD_EXTRA_BITS,
  * LSH_BAD_LAST_BYTE or LSH_SHORT_OUTPUT, tested in that order, and changes nothing. */
 uint32_t lsh_close(lsh_record r, uint8_t last, uint64_t e, uint8_t *output, size_t output_len);
+
+/* ---- an order with a roll ---- */
+
+/* An order may have a roll: a buffer with the order's checkpoints, which are the chains at every LSH_CHECKPOINT_BLOCKS-th block, so that
+ * the order can be taken up at its middle. An order has a roll in all its Append and Rewind calls or in none: with one, lsh_append_roll and
+ * lsh_rewind_roll take the place of lsh_append and lsh_rewind. The driver keeps the roll with the record, and lends it to each of these
+ * calls as the last one left it.
+ *
+ * A roll has 1 to LSH_MOST_SLOTS slots, counted from 1, and each holds one checkpoint; so the order always has less than
+ * (slots + 1) * LSH_CHECKPOINT_BLOCKS whole blocks, and what would make it longer gets LSH_FULL_ROLL. A new roll is
+ * LSH_ROLL_BYTES(w, slots) zeros, where w is the word size of the order. What stands where:
+ *
+ *     0                        the index of the head: the slot of the first checkpoint
+ *     LSH_SLOT_PLACE(w, i)     the index of slot i: the slot of the next checkpoint
+ *     LSH_CHAIN_PLACE(w, i)    the chain of slot i: 16 words of w bits, lowest byte first, LSH_CHAIN_BYTES(w) bytes
+ *
+ * An index is the number of a slot, or 0 where no slot follows, in LSH_INDEX_BYTES bytes, low byte first. The slots that are met on the way
+ * from the head are linked. The k-th of them has the chain after k times LSH_CHECKPOINT_BLOCKS blocks. The bytes of a slot that is not
+ * linked mean nothing.
+ *
+ * LSH_BAD_ROLL is answered if the buffer does not have the length of a roll, if an index beyond the slots or a slot twice is met on the way
+ * from the head, or if the number of linked slots is not the record's whole blocks divided by LSH_CHECKPOINT_BLOCKS and rounded down. The
+ * chains are not tested. */
+
+/* Adds a piece of any length to the end of an order with a roll, and lays the checkpoints due: one at each new whole block whose number,
+ * counted from 1, is a multiple of LSH_CHECKPOINT_BLOCKS. For each a slot that is not linked is taken, and which one is left open. The
+ * slot's index becomes 0, the chain is written to the slot, and its number becomes the index of the slot that was linked last, or of the
+ * head. No other byte of the roll is written.
+ * Answers 0 with the record and the count that lsh_append gives. Or answers LSH_UNSOUND_RECORD, LSH_BAD_ROLL, LSH_TOO_LONG or
+ * LSH_FULL_ROLL, tested in that order, and changes no byte of the roll. */
+lsh_outcome lsh_append_roll(lsh_record r, const uint8_t *piece, size_t piece_len, uint8_t *roll, size_t roll_len);
+
+/* Takes bytes off the end of an order with a roll, as lsh_rewind does, and unlinks the checkpoints past the new end; one at the end itself
+ * stays. If there are any, the index that led to the first slot unlinked becomes 0, and the slots serve again. No other byte of the roll is
+ * written.
+ * Answers 0 with the record and the count that lsh_rewind gives. Or answers LSH_UNSOUND_RECORD, LSH_BAD_ROLL, LSH_BAD_START, LSH_BAD_KEEP,
+ * LSH_HELD_DIFFER or LSH_OPENING_DIFFERS, tested in that order, and changes no byte of the roll. */
+lsh_outcome lsh_rewind_roll(lsh_record r, uint64_t keep, const uint8_t *h, size_t h_len, uint8_t *roll, size_t roll_len);
 
 /* ---- one message ---- */
 

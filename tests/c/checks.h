@@ -129,6 +129,12 @@ static void take_copy(struct guarded *guarded)
     memcpy(guarded->copy, guarded->bytes, GUARDED);
 }
 
+/* Makes all bytes those of the copy. */
+static inline void put_back(struct guarded *guarded)
+{
+    memcpy(guarded->bytes, guarded->copy, GUARDED);
+}
+
 static void fill(struct guarded *guarded)
 {
     guarded->start = GUARD + next_random() % ALIGNMENT;

@@ -1,4 +1,4 @@
-// Includes the header and makes each call from C++: an order of two pieces, the second of which is dropped again.
+// Includes the header and makes each call from C++: an order of two pieces, the second of which is dropped again, and one with a roll.
 #include "lsh_kiosk.h"
 
 #include <cstdio>
@@ -28,6 +28,15 @@ int main()
     good = good && dropped.number == LSH_ACCEPTED && dropped.next.total == 1
         && std::memcmp(&dropped.next, &first.next, sizeof first.next) == 0 && sameness.number == LSH_ACCEPTED && sameness.same
         && counts.number == LSH_ACCEPTED && counts.firsts == 1 && counts.reprints == 1;
+
+    // A piece of one checkpoint on a roll of one slot, and all of it handed back.
+    static const uint8_t piece[LSH_CHECKPOINT_BLOCKS * LSH_BLOCK_BYTES(32)] = {};
+    uint8_t roll[LSH_ROLL_BYTES(32, 1)] = {};
+    const lsh_outcome laid = lsh_append_roll(opened.next, piece, sizeof piece, roll, sizeof roll);
+    good = good && laid.number == LSH_ACCEPTED && laid.count == LSH_CHECKPOINT_BLOCKS && roll[0] == 1 && roll[1] == 0;
+    const lsh_outcome back = lsh_rewind_roll(laid.next, 0, piece, sizeof piece, roll, sizeof roll);
+    good = good && back.number == LSH_ACCEPTED && std::memcmp(&back.next, &opened.next, sizeof opened.next) == 0 && roll[0] == 0;
+
     std::puts(good ? "from_cpp: all calls passed" : "from_cpp: FAILED");
     return good ? 0 : 1;
 }

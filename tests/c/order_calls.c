@@ -13,7 +13,7 @@
 #define PROGRAM "order_calls"
 #define LARGEST (6 * LSH_BLOCK_BYTES(64))
 #include "checks.h"
-#include "order_model.h"
+#include "order_checks.h"
 
 #define ORDERS 300 /* random orders at each word size, and random records */
 #define CALLS 40   /* in each order */
@@ -24,25 +24,6 @@
 void *open_to(void *answer, uint64_t w, uint64_t n) __asm__("lsh_open");
 void *append_to(void *answer, lsh_record r, const uint8_t *piece, size_t piece_len) __asm__("lsh_append");
 void *rewind_to(void *answer, lsh_record r, uint64_t keep, const uint8_t *h, size_t h_len) __asm__("lsh_rewind");
-
-/* Where these write. */
-static struct guarded place;
-
-static void check_outcome(const lsh_outcome *outcome, const lsh_outcome *right, const char *said)
-{
-    check(outcome->number == right->number, "%s answers %" PRIu32 ", not %" PRIu32, said, outcome->number, right->number);
-    check(outcome->count == right->count, "%s counts %" PRIu64 " blocks, not %" PRIu64, said, outcome->count, right->count);
-    check(memcmp(&outcome->next, &right->next, sizeof right->next) == 0, "%s returns another record", said);
-}
-
-/* The answer at the place, and the bytes around it. */
-static void check_place(const lsh_outcome *right, const char *said)
-{
-    lsh_outcome outcome;
-    memcpy(&outcome, buffer(&place), sizeof outcome);
-    check_outcome(&outcome, right, said);
-    check(kept_except(&place, sizeof outcome), "%s writes outside its answer", said);
-}
 
 static lsh_record open_order(uint64_t w, uint64_t n)
 {
@@ -55,10 +36,6 @@ static lsh_record open_order(uint64_t w, uint64_t n)
     check_place(&right, said);
     return outcome.next;
 }
-
-/* Says what is tried on a record. */
-#define SAY(said, call, r, format, ...) \
-    snprintf(said, sizeof said, call "(w = %" PRIu64 ", n = %" PRIu64 ", total = %" PRIu64 ", " format ")", (r)->w, (r)->n, (r)->total, __VA_ARGS__)
 
 /* A piece may be said to be longer than its memory if the call has to be refused: a refused call reads nothing of it. */
 static lsh_record append(const lsh_record *r, struct guarded *lent, size_t from, size_t piece_len)
@@ -158,14 +135,7 @@ static void try_order(uint64_t w)
 /* A sound record, of no order most likely, with a total of at least `least` bytes and at most the limit. */
 static lsh_record random_record(uint64_t w, uint64_t least)
 {
-    lsh_record r = {.w = w, .n = 1 + below(8 * w), .total = least + next_random() % (LSH_MOST_BYTES - least + 1)};
-    for (size_t i = 0; i < 16; i++) {
-        r.chain[i] = w == 32 ? next_random() >> 32 : next_random();
-    }
-    for (size_t i = 0; i < r.total % LSH_BLOCK_BYTES(w); i++) {
-        r.held[i] = (uint8_t)next_random();
-    }
-    return r;
+    return sound_record(w, least + next_random() % (LSH_MOST_BYTES - least + 1));
 }
 
 /* The held bytes at the end of some blocks, so that a rewind is not refused by them. */

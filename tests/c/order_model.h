@@ -35,14 +35,21 @@ static lsh_outcome refused(uint32_t number, const lsh_record *r)
 
 typedef uint32_t block_call(uint64_t w, uint8_t *chain, size_t chain_len, const uint8_t *block, size_t block_len);
 
+/* The bytes of a record's chain, lowest byte of each word first. */
+static void store_chain(const lsh_record *r, uint8_t *bytes)
+{
+    size_t word = r->w / 8;
+    for (size_t i = 0; i < 16 * word; i++) {
+        bytes[i] = (uint8_t)(r->chain[i / word] >> 8 * (i % word));
+    }
+}
+
 /* Runs one block on the chain of a record. */
 static void run_block(block_call *call, lsh_record *r, const uint8_t *block)
 {
     uint8_t chain[LSH_CHAIN_BYTES(64)];
     size_t word = r->w / 8;
-    for (size_t i = 0; i < 16 * word; i++) {
-        chain[i] = (uint8_t)(r->chain[i / word] >> 8 * (i % word));
-    }
+    store_chain(r, chain);
     call(r->w, chain, 16 * word, block, LSH_BLOCK_BYTES(r->w));
     memset(r->chain, 0, sizeof r->chain);
     for (size_t i = 0; i < 16 * word; i++) {
@@ -122,7 +129,7 @@ static lsh_outcome right_rewind(const lsh_record *r, uint64_t keep, const uint8_
     return outcome;
 }
 
-static uint32_t right_close_answer(const lsh_record *r, uint8_t last, uint64_t e, size_t output_len)
+static inline uint32_t right_close_answer(const lsh_record *r, uint8_t last, uint64_t e, size_t output_len)
 {
     if (!is_sound(r)) {
         return LSH_UNSOUND_RECORD;
@@ -131,7 +138,7 @@ static uint32_t right_close_answer(const lsh_record *r, uint8_t last, uint64_t e
 }
 
 /* The receipt that an accepted Close writes. */
-static void right_receipt(const lsh_record *r, uint8_t last, uint64_t e, uint8_t *receipt)
+static inline void right_receipt(const lsh_record *r, uint8_t last, uint64_t e, uint8_t *receipt)
 {
     lsh_record end = *r;
     end.held[r->total % LSH_BLOCK_BYTES(r->w)] = (uint8_t)(last | 0x80u >> e);

@@ -1,6 +1,6 @@
 //! The ratios that are wanted of the module. They are printed and decide nothing.
 
-use crate::blocks::{APPEND, BACKWARD, FORWARD, REWIND};
+use crate::blocks::{APPEND, APPEND_ROLL, BACKWARD, FORWARD, REWIND};
 use crate::messages::{WHOLE_1_MIB, WHOLE_64_BYTES};
 use crate::peers::{CRYPTOPP, MODULE, REFERENCE};
 use crate::timing::{Rates, Task};
@@ -13,7 +13,7 @@ struct Bar {
     at_least: [(usize, f64); 2],
 }
 
-const BARS: [Bar; 6] = [
+const BARS: [Bar; 7] = [
     Bar {
         what: "forward, as a multiple of lsh_ref",
         work: FORWARD,
@@ -31,6 +31,12 @@ const BARS: [Bar; 6] = [
         work: APPEND,
         to: Task { peer: MODULE, work: FORWARD },
         at_least: [(32, 0.95), (64, 0.95)],
+    },
+    Bar {
+        what: "Append with a roll, as a part of Append",
+        work: APPEND_ROLL,
+        to: Task { peer: MODULE, work: APPEND },
+        at_least: [(32, 0.97), (64, 0.97)],
     },
     Bar {
         what: "Rewind, as a part of Append",

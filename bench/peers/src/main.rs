@@ -1,4 +1,5 @@
-//! Times block runs, Append, Rewind, whole messages and Tally by the module, lsh_ref and Crypto++. `bench/run` builds and starts it.
+//! Times block runs, Append without a roll and with one, Rewind, whole messages and Tally by the module, lsh_ref and
+//! Crypto++. `bench/run` builds and starts it.
 
 mod bars;
 mod blocks;
@@ -8,6 +9,7 @@ mod table;
 mod till;
 mod timing;
 
+use compare::roll::MOST_SLOTS;
 use compare::Random;
 use lsh_ref::Word;
 use timing::{run_moved, Rates, Timing};
@@ -47,7 +49,9 @@ fn print_report(rates: &Rates) {
     );
     println!("digests and all buffers were touched.");
     table::print("Whole blocks over 1 MiB", &blocks::COLUMNS, rates);
-    table::print("Append of 1 MiB to a new record, Rewind of 1 MiB", &blocks::RECORD_COLUMNS, rates);
+    let title =
+        format!("Append of 1 MiB to a new record, also with a new roll of {MOST_SLOTS} slots, and Rewind of 1 MiB");
+    table::print(&title, &blocks::RECORD_COLUMNS, rates);
     table::print("Whole messages, LSH-256-256 and LSH-512-512", &messages::COLUMNS, rates);
     till::print();
     bars::print(rates);

@@ -1,6 +1,9 @@
 //! The implementations that are timed against each other.
 
-use compare::{append, block_backward, block_forward, open, rewind, tally, whole, Record, ACCEPTED, RECEIPT_BYTES};
+use compare::roll::{roll_bytes, MOST_SLOTS};
+use compare::{
+    append, append_roll, block_backward, block_forward, open, rewind, tally, whole, Record, ACCEPTED, RECEIPT_BYTES,
+};
 use lsh_ref::Word;
 
 pub const MODULE: &str = "this module";
@@ -84,6 +87,17 @@ pub fn reference_backward<W: Word>(chain: &mut [u8], input: &[u8]) {
 pub fn module_append<W: Word>(input: &[u8]) -> u64 {
     let opened = open(W::BITS as u64, digest_bits::<W>()).next;
     append(opened, input).next.chain[0]
+}
+
+/// Bytes of a roll with the most slots.
+pub fn largest_roll<W: Word>() -> usize {
+    roll_bytes(W::BITS as u64, MOST_SLOTS)
+}
+
+/// Word 0 of the chain of a new record after an Append of the input, with a new roll.
+pub fn module_append_roll<W: Word>(input: &[u8], roll: &mut [u8]) -> u64 {
+    let opened = open(W::BITS as u64, digest_bits::<W>()).next;
+    append_roll(opened, input, roll).next.chain[0]
 }
 
 /// Word 0 of the chain of a record after a Rewind of the input. The record has a chain of zeros and one block before

@@ -11,25 +11,38 @@ pub struct Task {
     pub work: &'static str,
 }
 
-type Run = Box<dyn FnMut(&[u8])>;
+type Run = Box<dyn FnMut(&[u8], &mut [u8])>;
 
 /// A task, and the shortest time that it took over its input.
 pub struct Timing<'a> {
     w: usize,
     task: Task,
     input: &'a [u8],
+    /// Lent to the run, all zeros each time.
+    memory: Vec<u8>,
     run: Run,
     best: Duration,
 }
 
 impl<'a> Timing<'a> {
-    pub fn new<W: Word>(task: Task, input: &'a [u8], run: impl FnMut(&[u8]) + 'static) -> Timing<'a> {
-        Timing { w: W::BITS, task, input, run: Box::new(run), best: Duration::MAX }
+    pub fn new<W: Word>(task: Task, input: &'a [u8], mut run: impl FnMut(&[u8]) + 'static) -> Timing<'a> {
+        Timing::with_memory::<W>(task, input, 0, move |input, _| run(input))
+    }
+
+    /// The run is also lent so many zeros, which are made before the time is taken.
+    pub fn with_memory<W: Word>(
+        task: Task,
+        input: &'a [u8],
+        size: usize,
+        run: impl FnMut(&[u8], &mut [u8]) + 'static,
+    ) -> Timing<'a> {
+        Timing { w: W::BITS, task, input, memory: vec![0; size], run: Box::new(run), best: Duration::MAX }
     }
 
     pub fn time(&mut self) {
+        self.memory.fill(0);
         let start = Instant::now();
-        (self.run)(black_box(self.input));
+        (self.run)(black_box(self.input), black_box(&mut self.memory));
         self.best = self.best.min(start.elapsed());
     }
 

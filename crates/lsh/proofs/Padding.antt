@@ -17,7 +17,8 @@ use Rattle.lsh.proofs.Bytes.{Bytes, bytes-drop}
 abbrev pub blockAt : WordSize → List ℕ → ℕ → List ℕ
 blockAt z s k = wordsOf z 32 (take (blockBytes z) (drop (k * blockBytes z) s))
 
-firstBlocks-add : (z : WordSize) (j k : ℕ) (s : List ℕ) → firstBlocks z (j + k) s ≡ firstBlocks z j s ++ firstBlocks z k (drop (j * blockBytes z) s)
+-- the first j + k blocks: the first j, and the first k of what is after them
+pub firstBlocks-add : (z : WordSize) (j k : ℕ) (s : List ℕ) → firstBlocks z (j + k) s ≡ firstBlocks z j s ++ firstBlocks z k (drop (j * blockBytes z) s)
 unfolding firstBlocks
 firstBlocks-add z zero k s = simp (zero-add, zero-mul)
 firstBlocks-add z (suc j) k s =

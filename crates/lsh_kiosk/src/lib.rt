@@ -6,6 +6,9 @@ ghost use Rattle.block_call.specs.BlockCall.{blockAnswer, forwardBytes, backwar
 ghost use Rattle.record.specs.Open.{openCall};
 ghost use Rattle.append.specs.Append.{appendCall};
 ghost use Rattle.rewind.specs.Rewind.{rewindCall};
+ghost use Rattle.roll.specs.FreeSlot.{freeSlot, FreeChoice};
+ghost use Rattle.append_roll.specs.AppendRoll.{appendRollCall, appendedRoll};
+ghost use Rattle.rewind_roll.specs.RewindRoll.{rewindRollCall, rewoundRoll};
 ghost use Rattle.close.specs.Close.{closeAnswer, closeOutput};
 ghost use Rattle.whole.specs.Whole.{wholeAnswer, wholeOutput};
 ghost use Rattle.same.specs.Same.{sameCall};
@@ -48,6 +51,20 @@ pub extern "C" fn lsh_rewind(r: Record, keep: u64, h: &[u8]) -> Outcome
     ensures { λ o. ⌜ o ≡ rewindCall r keep (now (h .entry)) ⌝ }
 {
     rewind::rewind(r, keep, h)
+}
+
+#[no_mangle]
+pub extern "C" fn lsh_append_roll(r: Record, piece: &[u8], roll: &mut [u8]) -> Outcome
+    ensures { λ o. ⌜ (o ≡ appendRollCall r (now (piece .entry)) (now (roll .entry))) × (now (roll .exit) ≡ appendedRoll r (now (piece .entry)) (now (roll .entry))) × FreeChoice freeSlot ⌝ }
+{
+    append_roll::append_roll(r, piece, roll)
+}
+
+#[no_mangle]
+pub extern "C" fn lsh_rewind_roll(r: Record, keep: u64, h: &[u8], roll: &mut [u8]) -> Outcome
+    ensures { λ o. ⌜ (o ≡ rewindRollCall r keep (now (h .entry)) (now (roll .entry))) × (now (roll .exit) ≡ rewoundRoll r keep (now (h .entry)) (now (roll .entry))) ⌝ }
+{
+    rewind_roll::rewind_roll(r, keep, h, roll)
 }
 
 #[no_mangle]

@@ -2,7 +2,7 @@
 -- Assumes nothing.
 use mathlib.Core.Path.{_≡_, refl, sym, ap, _∙_}
 use mathlib.Core.Bool.{Bool, true, false, not, _&&_, false≢true}
-use mathlib.Core.List.{List, [], _∷_}
+use mathlib.Core.List.{List, [], _∷_, map}
 use Prim.Native.Nat.{ℕ, zero, suc, _+_, _-_, _*_, _/_, _≤_, _<_}
 use native.Mathlib.Nat.{mul-div-cancel}
 use native.Mathlib.Omega.{arith}
@@ -17,7 +17,7 @@ use Rattle.lsh.proofs.Opening.{at-zeros}
 use Rattle.record.specs.declared.Record.{Record}
 use Rattle.roll.specs.Slots.{indexBytes, mostSlots, slotBytes, rollBytes, slotCount, isRollLength, indexPlace}
 use Rattle.roll.specs.Members.{member, repeats, allUpTo}
-use Rattle.roll.specs.Roll.{newRoll, nextIndex, links, isRoll, checkpoints, isRollOf}
+use Rattle.roll.specs.Roll.{newRoll, nextIndex, links, chainIn, shown, isRoll, checkpoints, isRollOf}
 use Rattle.roll.proofs.Members.{each-up-to, all-up-to, distinct-few}
 use Rattle.roll.proofs.Ways.{Leads, met-leads, leads-met, met-some}
 
@@ -80,7 +80,7 @@ module _ (z : WordSize) where
 
   -- a new roll has no links
   module _ (k : ℕ) (some : 1 ≤ k) (most : k ≤ mostSlots) where
-    slots-are : slotCount z (rollBytes z k) ≡ k
+    pub slots-are : slotCount z (rollBytes z k) ≡ k
     unfolding slotCount rollBytes slotBytes
     slots-are = ap (λ (n : ℕ). n / slotBytes z) (before k) ∙ mul-div-cancel k positive
       where
@@ -108,6 +108,10 @@ module _ (z : WordSize) where
     pub new-links : links z (newRoll z k) ≡ []
     new-links = links-are (newRoll z k) [] new-right new-way refl (λ x h. absurd (false≢true h))
 
+    pub new-shown : shown z (newRoll z k) ≡ []
+    unfolding shown
+    new-shown = ap (map (chainIn z (newRoll z k))) new-links
+
     pub new-roll : isRoll z (newRoll z k) ≡ true
     new-roll = is-roll (newRoll z k) [] new-right new-way refl (λ x h. absurd (false≢true h))
 
@@ -122,3 +126,7 @@ roll-of r s e =
     let z : WordSize = sizeOf (r .w) in
     let p = and-true (isRoll z s) (eqb (length (links z s)) (checkpoints (r .w) (r .total))) e in
     (p .0, eqb-true (length (links z s)) (checkpoints (r .w) (r .total)) (p .1))
+
+pub is-roll-of : (r : Record) (s : List ℕ) → isRoll (sizeOf (r .w)) s ≡ true → length (links (sizeOf (r .w)) s) ≡ checkpoints (r .w) (r .total) → isRollOf r s ≡ true
+unfolding isRollOf
+is-roll-of r s is many = rw (is, eq-eqb (length (links (sizeOf (r .w)) s)) (checkpoints (r .w) (r .total)) many)

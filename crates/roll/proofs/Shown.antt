@@ -5,10 +5,10 @@ use mathlib.Core.Bool.{Bool, true, false, cond, false≢true}
 use mathlib.Core.Logic.{⊎-elim}
 use mathlib.Core.List.{List, [], _∷_, _++_, map, append-nil}
 use Prim.Native.Nat.{ℕ, zero, suc, _+_, _≤_, _<_, _^_}
-use native.Mathlib.Nat.{le-refl}
+use native.Mathlib.Nat.{add-zero, le-refl}
 use native.Mathlib.Omega.{arith}
 use lib.Dec.{eqb, ltb}
-use lib.ListN.{length, take}
+use lib.ListN.{length, take, length-append}
 use lib.Seq.{take-all, take-length}
 use borrow.Author.Tests.{ltb-true, ltb-false}
 use Rattle.lsh.specs.Tabulate.{at}
@@ -19,7 +19,7 @@ use Rattle.roll.specs.Slots.{mostSlots, rollBytes, slotCount, isRollLeng
 use Rattle.roll.specs.Members.{member, repeats}
 use Rattle.roll.specs.Roll.{nextIndex, links, chainIn, shown, isRoll}
 use Rattle.roll.specs.FreeSlot.{freeSlot, Unlinked, FreeChoice}
-use Rattle.roll.specs.Checkpoints.{withIndex, withSlot, leadTo, taken, laid, unlinked}
+use Rattle.roll.specs.Checkpoints.{withIndex, withSlot, leadTo, taken, laid, laidAfter, unlinked}
 use Rattle.roll.proofs.Members.{apart, member-here, member-there, member-cases, member-at, member-take, member-snoc, repeats-take, repeats-snoc, free-choice}
 use Rattle.roll.proofs.Ways.{Leads, relinked}
 use Rattle.roll.proofs.Writes.{index-size, next-is, next-other, chain-kept, slot-size, slot-next, slot-next-other, slot-chain, slot-chain-other}
@@ -245,3 +245,30 @@ module _ (z : WordSize) (ok : Octets z) (s : List ℕ) (is : isRoll z s ≡ true
               roll = is;
               shows = sym (take-all m (shown z s) (omega (arith, shown-many z s, ltb-false m (length L) e)));
             }
+
+-- d checkpoints laid one after the other, from m links on. C j are the first j chains that the roll has to show, and f j is the j-th
+module _ (z : WordSize) (ok : Octets z) (f : ℕ → List ℕ) (C : ℕ → List (List ℕ))
+    (chains : (j : ℕ) → Chain z (f j)) where
+  pub record Laid (s : List ℕ) (m d : ℕ) (u : List ℕ) : Type 0 where
+    pub size : length u ≡ length s
+    pub roll : isRoll z u ≡ true
+    pub many : length (links z u) ≡ m + d
+    pub shows : shown z u ≡ C (m + d)
+
+  pub laid-all : (d m : ℕ) (s : List ℕ) → isRoll z s ≡ true → length (links z s) ≡ m → shown z s ≡ C m → m + d ≤ slotCount z (length s)
+      → ((j : ℕ) → m ≤ j → j < m + d → C (suc j) ≡ C j ++ f (suc j) ∷ []) → Laid s m d (laidAfter z f m d s)
+  laid-all zero m s is many shows room grows =
+      record { size = refl; roll = is; many = many ∙ sym (add-zero m); shows = shows ∙ ap C (sym (add-zero m)) }
+  laid-all (suc d) m s is many shows room grows =
+      let left : length (links z s) < slotCount z (length s) = omega arith in
+      let t : List ℕ = f (suc m) in
+      let u : List ℕ = laid z t s in
+      let same : length u ≡ length s = laid-size z ok s is left t (chains (suc m)) in
+      let more : length (links z u) ≡ suc m =
+      ap length (laid-links z ok s is left t (chains (suc m))) ∙ length-append (links z s) _ ∙ omega arith in
+      let next : shown z u ≡ C (suc m) =
+      laid-shown z ok s is left t (chains (suc m)) ∙ ap (λ (xs : List (List ℕ)). xs ++ t ∷ []) shows ∙ sym (grows m (omega arith) (omega arith)) in
+      let rest : Laid u (suc m) d (laidAfter z f (suc m) d u) =
+      laid-all d (suc m) u (laid-roll z ok s is left t (chains (suc m))) more next (rw same (omega arith)) (λ j le lt. grows j (omega arith) (omega arith)) in
+      let sum : suc m + d ≡ m + suc d = omega arith in
+      record { size = rest .size ∙ same; roll = rest .roll; many = rest .many ∙ sum; shows = rest .shows ∙ ap C sum }

@@ -30,6 +30,10 @@ module _ (w : ℕ) where
   pub blocks-at : (k : ℕ) → k * step / B ≡ spacing * k
   blocks-at k = ap (λ (n : ℕ). n / B) (sym (mul-assoc k spacing B) ∙ ap (λ (n : ℕ). n * B) (mul-comm k spacing)) ∙ mul-div-cancel (spacing * k) (block-some w)
 
+  -- an order has the blocks of its checkpoints
+  pub within : (total : ℕ) → checkpoints w total * step ≤ total
+  within total = rw (by-bytes total) (omega (arith, div-add-mod' total step))
+
   -- a checkpoint is among those of an order exactly if the order reaches it
   pub reached : (k b : ℕ) → k * step ≤ b → k ≤ checkpoints w b
   reached k b le =
@@ -43,10 +47,15 @@ module _ (w : ℕ) where
 
   -- so there are no fewer with more bytes
   pub no-fewer : (a b : ℕ) → a ≤ b → checkpoints w a ≤ checkpoints w b
-  no-fewer a b le = reached (checkpoints w a) b (rw (by-bytes a) (omega (arith, div-add-mod' a step)))
+  no-fewer a b le = reached (checkpoints w a) b (omega (arith, within a))
 
   -- what is left to the next checkpoint
   pub to-next : (total n : ℕ) → n ≡ step - total % step → total + n ≡ (checkpoints w total + 1) * step
   to-next total n e =
       rw (by-bytes total, e)
       (omega (arith, div-add-mod' total step, mod-lt total step-some))
+
+  -- an order that does not reach the k-th checkpoint has fewer blocks than that
+  pub fewer-blocks : (total k : ℕ) → checkpoints w total < k → total / B ≤ spacing * k
+  unfolding checkpoints
+  fewer-blocks total k lt = omega (arith, div-add-mod' (total / B) spacing)

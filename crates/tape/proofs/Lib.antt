@@ -2,5 +2,7 @@
 pub mod Simulation
 pub mod Splitting
 pub mod Steps
+pub mod Chains
+pub mod Orders
 pub mod Corrected
 pub mod Receipts

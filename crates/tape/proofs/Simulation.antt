@@ -1,12 +1,11 @@
 -- Two machines take the same calls: the plain tape, and the calls of the module, which keep something else from call to call. What they keep need
 -- not be a function of the tape: a buffer that the caller lends may have old bytes in the places that are not in use. So the induction goes over a
 -- relation, Shows r s: what is kept, r, shows what is on the tape, s. Where each call on an r that shows s answers as the tape does, and leaves what
--- shows the tape that is left, every list of calls does. Where what is kept is a function of the tape, as a record is, one equation for each
--- call says both.
+-- shows the tape that is left, every list of calls does.
 -- What holds of the tape alone, whatever bytes are handed back, is said apart from that: where each call keeps Good, every list of calls does; and
 -- where each call moves a sum as it moves its two counts, every list of calls does.
 -- Assumes nothing.
-use mathlib.Core.Path.{_≡_, refl, ap}
+use mathlib.Core.Path.{_≡_, refl}
 use mathlib.Core.List.{List, [], _∷_}
 use Prim.Native.Nat.{ℕ, _+_}
 use native.Mathlib.Omega.{arith}
@@ -17,7 +16,7 @@ pub record Follows {S R : Type 0} (Shows : R → S → Type 0) (g : Given R) (t 
   pub same : g .answer ≡ t .answer
   pub shows : Shows (g .next) (t .next)
 
--- and where what is kept is a function of the tape, the same answer and that function of the tape that is left
+-- of what is a function of the tape, as a record is: the same answer and that function of the tape that is left
 abbrev pub followed : {S R : Type 0} → (S → R) → Given S → Given R
 followed of t = record { answer = t .answer; next = of (t .next) }
 
@@ -38,16 +37,6 @@ module _ {S C : Type 0} (tape : S → C → Given S) (Good : S → Type 0) (keep
           let first = step r s c shows good (h .0) in
           let rest = calls-follow cs (call r c .next) (tape s c .next) (first .shows) (keeps s c good) (h .1) in
           (λ i. first .same i ∷ rest .0 i, rest .1)
-
-    -- its case of a function of the tape
-    module _ (of : S → R) (step : (s : S) (c : C) → Good s → Premise s c → call (of s) c ≡ followed of (tape s c)) where
-      pub calls-follow-function : (cs : List C) (r : R) (s : S) → r ≡ of s → Good s → Throughout tape Premise s cs
-          → (answers call r cs ≡ answers tape s cs) × (after call r cs ≡ of (after tape s cs))
-      calls-follow-function =
-          calls-follow (λ r s. r ≡ of s)
-          (λ r s c is good h.
-          let both : call r c ≡ followed of (tape s c) = rw is (step s c good h) in
-          record { same = ap (λ (g : Given R). g .answer) both; shows = ap (λ (g : Given R). g .next) both })
 
 module _
     {S C : Type 0}

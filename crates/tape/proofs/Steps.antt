@@ -1,4 +1,5 @@
--- One call on the record of a tape answers as the tape does, and leaves the record of the tape that is left.
+-- One call on the record of a tape answers as the tape does, and leaves the record of the tape that is left. What an order is lent beside its record
+-- changes nothing in that but for 16.
 -- Assumes nothing.
 use mathlib.Core.Path.{_≡_, refl, sym, ap, _∙_}
 use mathlib.Core.Bool.{Bool, true, false, cond}
@@ -21,15 +22,16 @@ use Rattle.lsh.proofs.Opening.{opening-chain}
 use Rattle.lsh.proofs.Padding.{blocks-short}
 use Rattle.runs.specs.Limits.{isDigestLength, limit}
 use Rattle.equal.proofs.Equal.{equal-self}
+use Rattle.record.specs.declared.Record.{Record}
+use Rattle.record.specs.declared.Outcome.{Outcome}
 use Rattle.record.specs.Record.{sound, heldOf, recordOf, refused}
 use Rattle.record.proofs.Strings.{held-record, record-sound}
-use Rattle.append.specs.Append.{appendAccepted, appendCall}
+use Rattle.append.specs.Append.{appendAccepted}
 use Rattle.append.proofs.Joins.{append-record}
 use Rattle.rewind.specs.Rewind.{startsOffBlock, keepsTooMuch, heldDiffers, reached, openingDiffers, rewound, rewindCall}
 use Rattle.rewind.proofs.Lengths.{OnBlock, on-block, keeps-few, total-is, same-fill}
 use Rattle.tape.specs.Sequence.{Given}
-use Rattle.tape.specs.Tape.{wholeBlocks, stays, tapeAppend, tapeRewind}
-use Rattle.tape.specs.Calls.{given}
+use Rattle.tape.specs.Tape.{Lent, wholeBlocks, tooManyBlocks, stays, tapeAppend, tapeRewind}
 use Rattle.tape.proofs.Simulation.{followed}
 use Rattle.tape.proofs.Splitting.{blocks-split, rest-split, blocks-kept, rest-kept}
 
@@ -43,17 +45,23 @@ pub either : {A : Type 0} (P : A → Type 0) (t : Bool) {u v : A} → (t ≡ tru
 either P true h k = h refl
 either P false h k = k refl
 
+-- what an outcome gives, beside a roll
+abbrev pub answered : Outcome → Given Record
+answered o = record { answer = record { number = o .number; count = o .count }; next = o .next }
+
 -- what holds of the tape throughout
 pub record Kept (s : List ℕ) : Type 0 where
   pub few : length s ≤ limit
   pub bytes : Bytes s
 
-pub append-kept : (w : ℕ) (s p : List ℕ) → Bytes p → Kept s → Kept (tapeAppend w s p .next)
+pub append-kept : (w : ℕ) (lent : Lent) (s p : List ℕ) → Bytes p → Kept s → Kept (tapeAppend w lent s p .next)
 unfolding tapeAppend stays
-append-kept w s p hp kept =
+append-kept w lent s p hp kept =
     either (λ (g : Given (List ℕ)). Kept (g .next)) (ltb limit (length s + length p)) (λ over. kept)
     (λ within.
-    record { few = omega (arith, length-append s p, ltb-false limit (length s + length p) within); bytes = bytes-append s p (kept .bytes) hp })
+    either (λ (g : Given (List ℕ)). Kept (g .next)) (tooManyBlocks lent (wholeBlocks w (s ++ p))) (λ full. kept)
+    (λ room.
+    record { few = omega (arith, length-append s p, ltb-false limit (length s + length p) within); bytes = bytes-append s p (kept .bytes) hp }))
 
 pub rewind-kept : (w : ℕ) (s : List ℕ) (keep size : ℕ) → Kept s → Kept (tapeRewind w s keep size .next)
 unfolding tapeRewind stays
@@ -78,14 +86,16 @@ module _ (w : ℕ) (word : isWordSize w ≡ true) where
   some = block-some w
 
   -- the count of an Append takes the whole blocks from what they were to what they are
-  pub append-count : (s p : List ℕ) → tapeAppend w s p .answer .count + wholeBlocks w s ≡ 0 + wholeBlocks w (tapeAppend w s p .next)
+  pub append-count : (lent : Lent) (s p : List ℕ) → tapeAppend w lent s p .answer .count + wholeBlocks w s ≡ 0 + wholeBlocks w (tapeAppend w lent s p .next)
   unfolding tapeAppend stays wholeBlocks
-  append-count s p =
+  append-count lent s p =
       let more : length (s ++ p) ≡ length s / B * B + (length s % B + length p) = omega (arith, length-append s p, div-add-mod' (length s) B) in
       let blocks : length (s ++ p) / B ≡ length s / B + (length s % B + length p) / B =
       ap (λ (k : ℕ). k / B) more ∙ mul-add-div-right some (length s / B) (length s % B + length p) in
       either (λ (g : Given (List ℕ)). g .answer .count + length s / B ≡ 0 + length (g .next) / B) (ltb limit (length s + length p)) (λ over. refl)
-      (λ within. omega (arith, blocks))
+      (λ within.
+      either (λ (g : Given (List ℕ)). g .answer .count + length s / B ≡ 0 + length (g .next) / B) (tooManyBlocks lent (length (s ++ p) / B)) (λ full. refl)
+      (λ room. omega (arith, blocks)))
 
   -- and that of a Rewind takes them back
   pub rewind-count : (s : List ℕ) (keep size : ℕ)
@@ -184,25 +194,24 @@ module _ (w : ℕ) (word : isWordSize w ≡ true) where
       }
 
     module _ (digest : isDigestLength w n ≡ true) (s : List ℕ) (kept : Kept s) where
-      sound-is : sound (recordOf w n s) ≡ true
+      pub sound-is : sound (recordOf w n s) ≡ true
       sound-is = record-sound w n s word digest (kept .few)
 
-      pub append-step : (p : List ℕ) → given (appendCall (recordOf w n s) p) ≡ followed (recordOf w n) (tapeAppend w s p)
-      unfolding appendCall appendAccepted tapeAppend given refused stays wholeBlocks recordOf
-      append-step p =
-          rw sound-is
-          (same-choice given (followed (recordOf w n)) (ltb limit (length s + length p)) (λ over. refl)
-          (λ within. rw (append-record w n s p word, length-append s p)))
+      -- an accepted Append gives the count of the tape, and the record of the tape that is left
+      pub append-next : (p : List ℕ)
+          → _≡_ {A = Outcome} (appendAccepted (recordOf w n s) p) (record { number = 0; count = wholeBlocks w (s ++ p) - wholeBlocks w s; next = recordOf w n (s ++ p) })
+      unfolding appendAccepted wholeBlocks recordOf
+      append-next p = rw (append-record w n s p word, length-append s p)
 
       pub rewind-step : (keep : ℕ) (h : List ℕ)
           → (tapeRewind w s keep (length h) .answer .number ≡ 0 → h ≡ drop (length s - length h) s)
-          → given (rewindCall (recordOf w n s) keep h) ≡ followed (recordOf w n) (tapeRewind w s keep (length h))
-      unfolding rewindCall tapeRewind given refused stays recordOf
+          → answered (rewindCall (recordOf w n s) keep h) ≡ followed (recordOf w n) (tapeRewind w s keep (length h))
+      unfolding rewindCall tapeRewind refused stays recordOf
       rewind-step keep h back =
           rw sound-is
-          (same-choice given (followed (recordOf w n)) (startsOffBlock B (length s) (length h)) (λ off. refl)
+          (same-choice answered (followed (recordOf w n)) (startsOffBlock B (length s) (length h)) (λ off. refl)
           (λ off.
-          same-choice given (followed (recordOf w n)) (keepsTooMuch B keep (length h)) (λ much. refl)
+          same-choice answered (followed (recordOf w n)) (keepsTooMuch B keep (length h)) (λ much. refl)
           (λ much.
           let on : OnBlock B (length s) (length h) = on-block B (length s) (length h) off in
           let few : (keep ≤ length h) × (keep < B) = keeps-few B keep (length h) much in

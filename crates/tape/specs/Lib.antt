@@ -1,4 +1,5 @@
 pub mod Sequence
 pub mod Tape
 pub mod Calls
+pub mod TapeRoll
 pub mod Corrected

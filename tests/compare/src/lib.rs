@@ -4,8 +4,9 @@
 //! of `include/lsh_kiosk.h`.
 
 mod replay;
+pub mod roll;
 
-pub use replay::{hex, replay};
+pub use replay::{hex, replay, Script};
 
 /// What a call answers.
 pub const ACCEPTED: u32 = 0;
@@ -13,6 +14,8 @@ pub const BAD_WORD_SIZE: u32 = 1;
 pub const BAD_LENGTH: u32 = 4;
 pub const NO_RECEIPTS: u32 = 13;
 pub const MALFORMED: u32 = 14;
+pub const BAD_ROLL: u32 = 15;
+pub const FULL_ROLL: u32 = 16;
 
 /// Bytes of a receipt.
 pub const RECEIPT_BYTES: usize = 68;
@@ -74,6 +77,21 @@ mod c {
         pub fn lsh_open(w: u64, n: u64) -> Outcome;
         pub fn lsh_append(r: Record, piece: *const u8, piece_len: usize) -> Outcome;
         pub fn lsh_rewind(r: Record, keep: u64, h: *const u8, h_len: usize) -> Outcome;
+        pub fn lsh_append_roll(
+            r: Record,
+            piece: *const u8,
+            piece_len: usize,
+            roll: *mut u8,
+            roll_len: usize,
+        ) -> Outcome;
+        pub fn lsh_rewind_roll(
+            r: Record,
+            keep: u64,
+            h: *const u8,
+            h_len: usize,
+            roll: *mut u8,
+            roll_len: usize,
+        ) -> Outcome;
         pub fn lsh_close(r: Record, last: u8, e: u64, output: *mut u8, output_len: usize) -> u32;
         pub fn lsh_whole(
             w: u64,
@@ -119,6 +137,18 @@ pub fn append(r: Record, piece: &[u8]) -> Outcome {
 pub fn rewind(r: Record, keep: u64, h: &[u8]) -> Outcome {
     // SAFETY: as in `append`.
     unsafe { c::lsh_rewind(r, keep, h.as_ptr(), h.len()) }
+}
+
+/// Adds a piece to the end of an order with a roll.
+pub fn append_roll(r: Record, piece: &[u8], roll: &mut [u8]) -> Outcome {
+    // SAFETY: as in `append`.
+    unsafe { c::lsh_append_roll(r, piece.as_ptr(), piece.len(), roll.as_mut_ptr(), roll.len()) }
+}
+
+/// Takes the bytes h off the end of an order with a roll, but for the first keep of them.
+pub fn rewind_roll(r: Record, keep: u64, h: &[u8], roll: &mut [u8]) -> Outcome {
+    // SAFETY: as in `append`.
+    unsafe { c::lsh_rewind_roll(r, keep, h.as_ptr(), h.len(), roll.as_mut_ptr(), roll.len()) }
 }
 
 /// Writes the receipt of an order: its bytes, and then the top e bits of `last`.

@@ -1,7 +1,6 @@
 //! The program replay, which makes the calls of a script.
 
 use std::env;
-use std::fmt::Write as _;
 use std::io::Write as _;
 use std::path::PathBuf;
 use std::process::{Command, Stdio};
@@ -23,6 +22,30 @@ pub fn replay(script: String) -> Vec<String> {
     String::from_utf8(output.stdout).unwrap().lines().map(str::to_string).collect()
 }
 
+/// A script as it is made, and the lines that the program has to print for it.
+#[derive(Default)]
+pub struct Script {
+    lines: String,
+    answers: Vec<String>,
+}
+
+impl Script {
+    pub fn call(&mut self, line: impl AsRef<str>, answer: impl Into<String>) {
+        self.lines += line.as_ref();
+        self.lines.push('\n');
+        self.answers.push(answer.into());
+    }
+
+    /// Runs the program on the script, and compares what it prints.
+    pub fn compare(self, what: &str) {
+        let printed = replay(self.lines);
+        assert_eq!(printed.len(), self.answers.len(), "lines printed, {what}");
+        for (place, (line, answer)) in printed.iter().zip(&self.answers).enumerate() {
+            assert_eq!(line, answer, "line {place}, {what}");
+        }
+    }
+}
+
 fn program_path() -> PathBuf {
     match env::var_os("LSH_PROGRAM_DIR") {
         Some(given) => PathBuf::from(given),
@@ -36,9 +59,6 @@ pub fn hex(bytes: &[u8]) -> String {
     if bytes.is_empty() {
         return "-".to_string();
     }
-    let mut digits = String::with_capacity(2 * bytes.len());
-    for byte in bytes {
-        write!(digits, "{byte:02x}").unwrap();
-    }
-    digits
+    let digit = |value: u8| char::from_digit(u32::from(value), 16).unwrap();
+    bytes.iter().flat_map(|byte| [digit(byte >> 4), digit(byte & 15)]).collect()
 }

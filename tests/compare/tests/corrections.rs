@@ -1,58 +1,20 @@
 //! Lists of Append and Rewind calls against document 01's plain tape, written here, and against lsh_ref: each list through the
 //! archive's calls, and once more through the program replay.
 
-use compare::{hex, receipt, replay, Outcome, Random, Record, ACCEPTED, RECEIPT_BYTES};
+mod record;
+mod tape;
+
+use compare::{hex, receipt, Outcome, Random, Record, Script, ACCEPTED, RECEIPT_BYTES};
 use lsh_ref::Word;
-
-/// The most bytes of an order.
-const LIMIT: u64 = 1 << 40;
-
-/// The answer to a call: its number, and the count of blocks.
-#[derive(Clone, Copy, PartialEq, Eq, Debug)]
-struct Answer {
-    number: u32,
-    count: usize,
-}
-
-/// The tape: the bytes of the order. It refuses by lengths alone.
-struct Tape {
-    block: usize,
-    bytes: Vec<u8>,
-}
-
-impl Tape {
-    fn whole_blocks(&self) -> usize {
-        self.bytes.len() / self.block
-    }
-
-    fn append(&mut self, piece: &[u8]) -> Answer {
-        if (self.bytes.len() + piece.len()) as u64 > LIMIT {
-            return Answer { number: 5, count: 0 };
-        }
-        let before = self.whole_blocks();
-        self.bytes.extend(piece);
-        Answer { number: 0, count: self.whole_blocks() - before }
-    }
-
-    fn rewind(&mut self, keep: u64, size: usize) -> Answer {
-        if size > self.bytes.len() || !(self.bytes.len() - size).is_multiple_of(self.block) {
-            return Answer { number: 6, count: 0 };
-        }
-        if keep > size as u64 || keep >= self.block as u64 {
-            return Answer { number: 7, count: 0 };
-        }
-        self.bytes.truncate(self.bytes.len() - size + keep as usize);
-        Answer { number: 0, count: size / self.block }
-    }
-}
+use record::{record_line, record_of};
+use tape::{Answer, Tape};
 
 /// A list of calls as it is made: the tape, the record that the archive's calls keep, and the script for replay with the answers that the
 /// tape gives.
 struct List<'a> {
     tape: Tape,
     record: Record,
-    script: String,
-    expected: Vec<String>,
+    script: Script,
     forward: usize,
     backward: usize,
     random: &'a mut Random,
@@ -63,12 +25,12 @@ impl List<'_> {
         let answer = self.tape.append(piece);
         self.forward += answer.count;
         self.take(compare::append(self.record, piece), answer);
-        self.call(format!("append {}", hex(piece)), format!("append {} {}", answer.number, answer.count));
+        self.script.call(format!("append {}", hex(piece)), format!("append {} {}", answer.number, answer.count));
     }
 
     /// Hands back the last bytes of the tape, as many as `size`.
     fn rewind(&mut self, keep: u64, size: usize) {
-        let h = self.tape.bytes[self.tape.bytes.len() - size..].to_vec();
+        let h = self.tape.last(size);
         let answer = self.tape.rewind(keep, size);
         self.backward += answer.count;
         self.rewind_call(keep, &h, answer);
@@ -76,7 +38,7 @@ impl List<'_> {
 
     fn rewind_call(&mut self, keep: u64, h: &[u8], answer: Answer) {
         self.take(compare::rewind(self.record, keep, h), answer);
-        self.call(format!("rewind {keep} {}", hex(h)), format!("rewind {} {}", answer.number, answer.count));
+        self.script.call(format!("rewind {keep} {}", hex(h)), format!("rewind {} {}", answer.number, answer.count));
     }
 
     /// Takes what a call of the archive gives, which has this answer. A refused call returns the record as it came.
@@ -87,12 +49,6 @@ impl List<'_> {
             "refused with {answer:?}, and another record"
         );
         self.record = outcome.next;
-    }
-
-    fn call(&mut self, line: String, answer: String) {
-        self.script += &line;
-        self.script.push('\n');
-        self.expected.push(answer);
     }
 
     fn below(&mut self, limit: usize) -> usize {
@@ -159,10 +115,10 @@ impl List<'_> {
             return;
         }
         let size = self.size_from_block();
-        let mut h = self.tape.bytes[self.tape.bytes.len() - size..].to_vec();
+        let mut h = self.tape.last(size);
         let place = size - 1 - self.below(held);
         h[place] ^= 1 << self.below(8);
-        self.rewind_call(0, &h, Answer { number: 8, count: 0 });
+        self.rewind_call(0, &h, Answer::refused(8));
     }
 
     /// 9: the whole order is handed back, and one byte of its whole blocks is another.
@@ -174,27 +130,8 @@ impl List<'_> {
         let mut h = self.tape.bytes.clone();
         let place = self.below(whole);
         h[place] ^= 1 << self.below(8);
-        self.rewind_call(0, &h, Answer { number: 9, count: 0 });
+        self.rewind_call(0, &h, Answer::refused(9));
     }
-}
-
-/// The record of the bytes, by lsh_ref.
-fn record_of<W: Word>(n: u64, bytes: &[u8]) -> Record {
-    let mut chain = lsh_ref::opening_chain::<W>(n);
-    let blocks = bytes.chunks_exact(W::BLOCK_BYTES);
-    let rest = blocks.remainder();
-    for block in blocks {
-        chain = lsh_ref::forward(&chain, block);
-    }
-    let mut held = [0; 256];
-    held[..rest.len()].copy_from_slice(rest);
-    Record { w: W::BITS as u64, n, total: bytes.len() as u64, chain: chain.map(|word| word.to_u64()), held }
-}
-
-/// The line that shows a record.
-fn record_line(r: &Record) -> String {
-    let words: String = r.chain.iter().map(|word| format!("{word:016x}")).collect();
-    format!("record {} {} {} {words} {}", r.w, r.n, r.total, hex(&r.held))
 }
 
 /// Two bytes more than a receipt, of which a Close leaves the last two.
@@ -213,15 +150,14 @@ fn compare_list<W: Word>(calls: usize, random: &mut Random) {
     let opened = compare::open(W::BITS as u64, n);
     assert_eq!(opened, Outcome { number: ACCEPTED, count: 0, next: record_of::<W>(n, &[]) });
     let mut list = List {
-        tape: Tape { block: W::BLOCK_BYTES, bytes: Vec::new() },
+        tape: Tape::new::<W>(None),
         record: opened.next,
-        script: String::new(),
-        expected: Vec::new(),
+        script: Script::default(),
         forward: 0,
         backward: 0,
         random,
     };
-    list.call(format!("open {} {n}", W::BITS), "open 0".to_string());
+    list.script.call(format!("open {} {n}", W::BITS), "open 0");
     for _ in 0..calls {
         list.random_call();
     }
@@ -231,15 +167,11 @@ fn compare_list<W: Word>(calls: usize, random: &mut Random) {
     let mut output = UNTOUCHED;
     assert_eq!(compare::close(list.record, 0xe8, 5, &mut output), ACCEPTED);
     assert_eq!(output[..], closed);
-    list.call("record".to_string(), record_line(&record));
-    list.call(format!("close e8 5 {}", UNTOUCHED.len()), format!("close 0 {}", hex(&closed)));
+    list.script.call("record", record_line(&record));
+    list.script.call(format!("close e8 5 {}", UNTOUCHED.len()), format!("close 0 {}", hex(&closed)));
 
     assert_eq!(list.forward, list.backward + list.tape.whole_blocks());
-    let printed = replay(list.script);
-    assert_eq!(printed.len(), list.expected.len());
-    for (place, (line, expected)) in printed.iter().zip(&list.expected).enumerate() {
-        assert_eq!(line, expected, "call {place} of a list, w = {}", W::BITS);
-    }
+    list.script.compare(&format!("a list of calls, w = {}", W::BITS));
 }
 
 fn compare_lists<W: Word>() {
