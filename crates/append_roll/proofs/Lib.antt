@@ -1,2 +1,3 @@
 -- Laws of Append with a roll.
 pub mod Parts
+pub mod Shows

@@ -17,7 +17,7 @@ use Rattle.roll.specs.Members.{member, repeats, allUpTo}
 use Rattle.roll.specs.FreeSlot.{firstFree, freeSlot, Unlinked, FreeChoice}
 
 -- a test of either of two
-or-false : (p q : Bool) → p || q ≡ false → (p ≡ false) × (q ≡ false)
+pub or-false : (p q : Bool) → p || q ≡ false → (p ≡ false) × (q ≡ false)
 or-false true q e = absurd (false≢true (sym e))
 or-false false q e = (refl, e)
 

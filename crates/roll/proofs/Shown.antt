@@ -10,19 +10,19 @@ use native.Mathlib.Omega.{arith}
 use lib.Dec.{eqb, ltb}
 use lib.ListN.{length, take, length-append}
 use lib.Seq.{take-all, take-length}
-use borrow.Author.Tests.{ltb-true, ltb-false}
+use borrow.Author.Tests.{eqb-false, ltb-true, ltb-false}
 use Rattle.lsh.specs.Tabulate.{at}
 use Rattle.lsh.specs.WordSize.{WordSize}
 use Rattle.lsh.specs.Block.{Chain}
 use Rattle.lsh.proofs.Bytes.{Octets}
-use Rattle.roll.specs.Slots.{mostSlots, rollBytes, slotCount, isRollLength}
+use Rattle.roll.specs.Slots.{mostSlots, rollBytes, slotCount, isRollLength, slotAt}
 use Rattle.roll.specs.Members.{member, repeats}
 use Rattle.roll.specs.Roll.{nextIndex, links, chainIn, shown, isRoll}
 use Rattle.roll.specs.FreeSlot.{freeSlot, Unlinked, FreeChoice}
 use Rattle.roll.specs.Checkpoints.{withIndex, withSlot, leadTo, taken, laid, laidAfter, unlinked}
-use Rattle.roll.proofs.Members.{apart, member-here, member-there, member-cases, member-at, member-take, member-snoc, repeats-take, repeats-snoc, free-choice}
+use Rattle.roll.proofs.Members.{or-false, apart, member-here, member-there, member-cases, member-at, member-take, member-snoc, repeats-take, repeats-snoc, free-choice}
 use Rattle.roll.proofs.Ways.{Leads, relinked}
-use Rattle.roll.proofs.Writes.{index-size, next-is, next-other, chain-kept, slot-size, slot-next, slot-next-other, slot-chain, slot-chain-other}
+use Rattle.roll.proofs.Writes.{index-size, next-is, next-other, chain-kept, slot-size, slot-next, slot-next-other, slot-chain, slot-chain-other, slot-kept, slot-kept-other}
 use Rattle.roll.proofs.Form.{Sized, sized, Linked, linked, links-are, is-roll}
 
 -- the same function on the numbers of a list, and on parts of it
@@ -183,6 +183,18 @@ module _ (z : WordSize) (ok : Octets z) (s : List ℕ) (is : isRoll z s ≡ true
         ∙ map-snoc (chainIn z U) L i
         ∙ ap₂ (λ (xs : List (List ℕ)) (x : List ℕ). xs ++ x ∷ []) (map-same (chainIn z U) (chainIn z s) L chain-stays) chain-new
 
+    -- every other slot that was not linked keeps its bytes
+    pub laid-untaken : (j : ℕ) → 0 < j → member j (links z (laid z t s)) ≡ false → slotAt z (laid z t s) j ≡ slotAt z s j
+    laid-untaken j some unlinked-after =
+        let p : (eqb j i ≡ false) × (member j L ≡ false) =
+        or-false (eqb j i) (member j L) (sym (ap (member j) laid-links ∙ member-snoc j i L) ∙ unlinked-after) in
+        let other : j ≡ i → ⊥ = eqb-false j i (p .0) in
+        let not-last : j ≡ last → ⊥ =
+        λ e. ⊎-elim (λ zero-is. omega arith) (λ m. apart last j L m (p .1) (sym e)) (member-cases last 0 L (lead-member (length L) (le-refl (length L)))) in
+        ap (λ (u : List ℕ). slotAt z u j) laid-is
+        ∙ slot-kept z ok k S (written ∙ sizes .size) last last-within i j some not-last
+        ∙ slot-kept-other z ok k s (sizes .size) i (free .within) (free .some) t chain j some other
+
   -- links taken off
   module _ (m : ℕ) where
     module _ (less : m < length L) where
@@ -254,11 +266,18 @@ module _ (z : WordSize) (ok : Octets z) (f : ℕ → List ℕ) (C : ℕ → List
     pub roll : isRoll z u ≡ true
     pub many : length (links z u) ≡ m + d
     pub shows : shown z u ≡ C (m + d)
+    pub untaken : (j : ℕ) → 0 < j → member j (links z u) ≡ false → (member j (links z s) ≡ false) × (slotAt z u j ≡ slotAt z s j)
 
   pub laid-all : (d m : ℕ) (s : List ℕ) → isRoll z s ≡ true → length (links z s) ≡ m → shown z s ≡ C m → m + d ≤ slotCount z (length s)
       → ((j : ℕ) → m ≤ j → j < m + d → C (suc j) ≡ C j ++ f (suc j) ∷ []) → Laid s m d (laidAfter z f m d s)
   laid-all zero m s is many shows room grows =
-      record { size = refl; roll = is; many = many ∙ sym (add-zero m); shows = shows ∙ ap C (sym (add-zero m)) }
+      record {
+        size = refl;
+        roll = is;
+        many = many ∙ sym (add-zero m);
+        shows = shows ∙ ap C (sym (add-zero m));
+        untaken = λ j some free. (free, refl);
+      }
   laid-all (suc d) m s is many shows room grows =
       let left : length (links z s) < slotCount z (length s) = omega arith in
       let t : List ℕ = f (suc m) in
@@ -271,4 +290,14 @@ module _ (z : WordSize) (ok : Octets z) (f : ℕ → List ℕ) (C : ℕ → List
       let rest : Laid u (suc m) d (laidAfter z f (suc m) d u) =
       laid-all d (suc m) u (laid-roll z ok s is left t (chains (suc m))) more next (rw same (omega arith)) (λ j le lt. grows j (omega arith) (omega arith)) in
       let sum : suc m + d ≡ m + suc d = omega arith in
-      record { size = rest .size ∙ same; roll = rest .roll; many = rest .many ∙ sum; shows = rest .shows ∙ ap C sum }
+      record {
+        size = rest .size ∙ same;
+        roll = rest .roll;
+        many = rest .many ∙ sum;
+        shows = rest .shows ∙ ap C sum;
+        untaken = λ j some free.
+            let r = rest .untaken j some free in
+            let p = or-false (eqb j (taken z s)) (member j (links z s))
+            (sym (ap (member j) (laid-links z ok s is left t (chains (suc m))) ∙ member-snoc j (taken z s) (links z s)) ∙ r .0) in
+            (p .1, r .1 ∙ laid-untaken z ok s is left t (chains (suc m)) j some (r .0));
+      }

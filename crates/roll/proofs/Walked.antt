@@ -31,7 +31,6 @@ use Rattle.roll.proofs.Shown.{taken-within, laid-size, laid-links, laid
 
 -- the marks of a list
 
-
 pub marked-none : replicate (mostSlots + 1) 0 ≡ marked []
 unfolding marked
 marked-none =
@@ -215,7 +214,11 @@ module _ (z : WordSize) (ok : Octets z) (s : List ℕ) (is : isRoll z s ≡ true
   abbrev pub known : Way
   known =
       record {
-        form = true; slots = slotCount z (length s); count = length (links z s); last = leadTo z s (length (links z s)); marks = marked (links z s);
+        form = true;
+        slots = slotCount z (length s);
+        count = length (links z s);
+        last = leadTo z s (length (links z s));
+        marks = marked (links z s);
       }
 
   pub way-is : wayOf z s ≡ known
@@ -255,7 +258,11 @@ module _ (z : WordSize) (s : List ℕ) {y : Way} (known : y ≡ wayOf z s) where
   way-form = ap (λ (x : Way). x .form) known ∙ go (isRoll z s)
     where
       go : (b : Bool) → cond b (record {
-        form = true; slots = slotCount z (length s); count = length (links z s); last = leadTo z s (length (links z s)); marks = marked (links z s)
+        form = true;
+        slots = slotCount z (length s);
+        count = length (links z s);
+        last = leadTo z s (length (links z s));
+        marks = marked (links z s);
       }) noWay .form ≡ b
       go true = refl
       go false = refl

@@ -3,12 +3,12 @@
 use mathlib.Core.Path.{_≡_, refl, sym, ap, ap₂, _∙_, subst}
 use mathlib.Core.Logic.{_⊎_, inl, inr, ⊎-elim}
 use mathlib.Core.List.{List}
-use Prim.Native.Nat.{ℕ, zero, suc, _+_, _*_, _≤_, _<_, _^_}
+use Prim.Native.Nat.{ℕ, zero, suc, _+_, _-_, _*_, _≤_, _<_, _^_, min}
 use native.Mathlib.Decide.{decLt}
 use native.Mathlib.Omega.{arith}
 use lib.Arith.{digits-lt}
-use lib.ListN.{length, drop}
-use lib.Seq.{getD-drop, sets, length-sets}
+use lib.ListN.{length, take, drop, length-take, length-drop}
+use lib.Seq.{getD-take, getD-drop, ext-getD, sets, length-sets}
 use Rattle.lsh.specs.Tabulate.{at, tabulate}
 use Rattle.lsh.specs.WordSize.{WordSize, wordBytes, chainBytes}
 use Rattle.lsh.specs.Bytes.{wordAt, wordsOf, byteAt, bytesOf}
@@ -16,7 +16,7 @@ use Rattle.lsh.specs.Block.{Chain}
 use Rattle.lsh.proofs.Tabulate.{length-tabulate, at-tabulate, tabulate-cong}
 use Rattle.lsh.proofs.Bytes.{Octets, word-bytes, chain-bytes, length-chain, words-of-bytes}
 use Rattle.engine.proofs.Places.{at-sets-before, at-sets-after, at-sets-in}
-use Rattle.roll.specs.Slots.{indexBytes, slotBytes, rollBytes, indexPlace, chainPlace}
+use Rattle.roll.specs.Slots.{indexBytes, slotBytes, rollBytes, indexPlace, chainPlace, slotAt}
 use Rattle.roll.specs.Roll.{nextIndex, chainIn}
 use Rattle.roll.specs.Checkpoints.{withIndex, withSlot}
 use Rattle.roll.proofs.Places.{index-before, slot-before, index-in, slot-is, chain-in, chain-before}
@@ -52,6 +52,19 @@ Clear b n a size = (b + n ≤ a) ⊎ (a + size ≤ b)
 clear-at : (s : List ℕ) (a : ℕ) (vs : List ℕ) (b n : ℕ) → Clear b n a (length vs) → (q : ℕ) → q < n → at (sets s a vs) (b + q) ≡ at s (b + q)
 clear-at s a vs b n (inl h) q lt = at-outside s a vs (b + q) (inl (omega arith))
 clear-at s a vs b n (inr h) q lt = at-outside s a vs (b + q) (inr (omega arith))
+
+part-clear : (s : List ℕ) (a : ℕ) (vs : List ℕ) (b n : ℕ) → Clear b n a (length vs) → take n (drop b (sets s a vs)) ≡ take n (drop b s)
+part-clear s a vs b n h =
+    ext-getD 0 (take n (drop b (sets s a vs))) (take n (drop b s))
+    (length-take n (drop b (sets s a vs))
+    ∙ ap (min n) (length-drop b (sets s a vs) ∙ ap (λ (k : ℕ). k - b) (length-sets s a vs) ∙ sym (length-drop b s))
+    ∙ sym (length-take n (drop b s)))
+    (λ q lt.
+    let few : q < n = omega (arith, length-take n (drop b (sets s a vs))) in
+    getD-take n (drop b (sets s a vs)) q 0 few
+    ∙ getD-drop b (sets s a vs) q 0
+    ∙ clear-at s a vs b n h q few
+    ∙ sym (getD-take n (drop b s) q 0 few ∙ getD-drop b s q 0))
 
 module _ (z : WordSize) (ok : Octets z) where
   -- the bytes of an index and of a chain
@@ -99,6 +112,16 @@ module _ (z : WordSize) (ok : Octets z) where
       pub next-other : (j : ℕ) → (j ≡ i → ⊥) → nextIndex z (withIndex z s i x) j ≡ nextIndex z s j
       unfolding withIndex
       next-other j other = next-clear s (indexPlace z i) (tabulate indexBytes (byteAt x)) j (index-clear j other)
+
+      -- another slot
+      pub slot-kept : (j : ℕ) → 0 < j → (j ≡ i → ⊥) → slotAt z (withIndex z s i x) j ≡ slotAt z s j
+      unfolding slotAt withIndex
+      slot-kept j some other =
+          part-clear s (indexPlace z i) (tabulate indexBytes (byteAt x)) (indexPlace z j) (slotBytes z) (rw (index-long x) (go (decLt j i)))
+        where
+          go : Dec (j < i) → Clear (indexPlace z j) (slotBytes z) (indexPlace z i) indexBytes
+          go (yes before) = inl (slot-before z j i some before)
+          go (no after) = inr (index-before z i j (omega arith))
 
       chain-off : (j : ℕ) → 0 < j → Clear (chainPlace z j) (chainBytes z) (indexPlace z i) (length (tabulate indexBytes (byteAt x)))
       unfolding chainPlace
@@ -171,3 +194,12 @@ module _ (z : WordSize) (ok : Octets z) where
           clear : Dec (j < i) → Clear (chainPlace z j) (chainBytes z) (chainPlace z i) (chainBytes z)
           clear (yes before) = inl (chain-before z j i some-j before)
           clear (no after) = inr (chain-before z i j some (omega arith))
+
+      pub slot-kept-other : (j : ℕ) → 0 < j → (j ≡ i → ⊥) → slotAt z (withSlot z s i t) j ≡ slotAt z s j
+      unfolding slotAt withSlot chainPlace
+      slot-kept-other j some-j other =
+          part-clear S (chainPlace z i) (bytesOf z t) (indexPlace z j) (slotBytes z) (rw long (clear (decLt j i))) ∙ slot-kept 0 j some-j other
+        where
+          clear : Dec (j < i) → Clear (indexPlace z j) (slotBytes z) (indexPlace z i + indexBytes) (chainBytes z)
+          clear (yes before) = inl (omega (arith, slot-before z j i some-j before))
+          clear (no after) = inr (omega (arith, slot-before z i j some (omega arith), slot-long))

@@ -1,8 +1,10 @@
 -- The bytes of a roll: the index of the head, and then the slots, each the index of the next slot and a chain. Slots are counted from 1.
 -- Assumes nothing.
 use mathlib.Core.Bool.{Bool, _&&_}
+use mathlib.Core.List.{List}
 use Prim.Native.Nat.{ℕ, zero, suc, _+_, _-_, _*_, _/_}
 use lib.Dec.{eqb, leb}
+use lib.ListN.{take, drop}
 use Rattle.lsh.specs.WordSize.{WordSize, chainBytes}
 
 -- the bytes of an index, the low one first
@@ -37,3 +39,7 @@ indexPlace z (suc i) = rollBytes z i
 -- where the chain of slot i stands
 unfoldable pub chainPlace : WordSize → ℕ → ℕ
 chainPlace z i = indexPlace z i + indexBytes
+
+-- the bytes of slot i
+unfoldable pub slotAt : WordSize → List ℕ → ℕ → List ℕ
+slotAt z s i = take (slotBytes z) (drop (indexPlace z i) s)

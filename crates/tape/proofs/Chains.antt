@@ -85,7 +85,7 @@ module _ (w n : ℕ) where
       let sum : a + rest ≡ spacing * k = omega arith in
       ap (λ (h : List ℕ). forwards Z (firstBlocks Z rest (h ++ p)) (forwards Z (firstBlocks Z a s) O)) (held-record w n s word)
       ∙ sym (ap₂ (λ (t : List ℕ) (bs : List (List ℕ)). forwards Z (firstBlocks Z rest t) (forwards Z bs O))
-        (drop-append-le (a * B) s p behind) (firstBlocks-front Z a s p behind))
+      (drop-append-le (a * B) s p behind) (firstBlocks-front Z a s p behind))
       ∙ sym (forwards-append Z (firstBlocks Z a (s ++ p)) (firstBlocks Z rest (drop (a * B) (s ++ p))) O)
       ∙ ap (λ (bs : List (List ℕ)). forwards Z bs O) (sym (firstBlocks-add Z a rest (s ++ p)) ∙ ap (λ (m : ℕ). firstBlocks Z m (s ++ p)) sum)
     where

@@ -61,9 +61,9 @@ free-slot-spec =
       omega arith,
       l .loop .inv .2,
       λ linked is.
-      let there : member i linked ≡ true =
-      marked-is linked i (omega arith) (λ e. c .if1 .left (ap (λ (m : List ℕ). at m i) is ∙ e)) in
-      l .loop .inv .3 linked is ∙ ap (λ (j : ℕ). firstFree i j linked) n ∙ turn i (k - i) linked there ∙ ap (λ (j : ℕ). firstFree (i + 1) j linked) r,
+          let there : member i linked ≡ true =
+          marked-is linked i (omega arith) (λ e. c .if1 .left (ap (λ (m : List ℕ). at m i) is ∙ e)) in
+          l .loop .inv .3 linked is ∙ ap (λ (j : ℕ). firstFree i j linked) n ∙ turn i (k - i) linked there ∙ ap (λ (j : ℕ). firstFree (i + 1) j linked) r,
     ))
     (λ c linked is.
     let l = c .before in

@@ -38,7 +38,6 @@ module _ (z : tie.Start) where
   sizes : Sized Z S
   sizes = sized Z S (have .right)
 
-
   way : z .args .y ≡ known Z ok S (z .pre .2)
   way = z .pre .3 ∙ way-is Z ok S (z .pre .2)
 
