@@ -3,30 +3,27 @@
 use mathlib.Core.Path.{_≡_, refl, sym, ap, ap₂, _∙_, subst}
 use mathlib.Core.Bool.{Bool, true, false, not, cond}
 use mathlib.Core.List.{List, [], _∷_, _++_, append-assoc}
-use Prim.Native.Nat.{ℕ, zero, suc, _+_, _-_, _*_, _/_, _≤_, _<_, zero-le}
-use native.Mathlib.Nat.{add-zero, zero-add, add-assoc, suc-mul, mul-add-div-right, div-add-mod', div-le-self, le-div-iff-mul-le}
+use Prim.Native.Nat.{ℕ, zero, suc, _+_, _-_, _*_, _/_, _%_, _≤_, _<_, zero-le}
+use native.Mathlib.Nat.{add-zero, zero-add, add-assoc, suc-mul, mul-assoc, mul-mod-left, mul-div-cancel, mul-add-div-right, add-mul-div-right, div-add-mod', div-le-self, le-div-iff-mul-le}
 use native.Mathlib.Numerals.{add-one}
-use native.Mathlib.Decide.{decLt}
 use native.Mathlib.Omega.{arith}
 use lib.Dec.{eqb, ltb}
 use lib.ListN.{length, take, drop, length-append, length-drop, take-append-drop}
-use lib.Seq.{length-take-le, take-add, take-all, take-length, paste-zero}
+use lib.Seq.{length-take-le, take-add, take-all, take-length}
 use borrow.Author.Tests.{eq-eqb, ne-eqb, ltb-false}
 use Rattle.lsh.specs.WordSize.{WordSize, isWordSize, sizeOf, blockBytes}
 use Rattle.lsh.specs.Block.{Chain, forwards}
-use Rattle.lsh.specs.Padding.{firstBlocks, blocksOf}
+use Rattle.lsh.specs.Padding.{firstBlocks, blocksOf, restOf}
 use Rattle.lsh.proofs.Figures.{block-some}
 use Rattle.lsh.proofs.Bytes.{octets}
 use Rattle.lsh.proofs.Padding.{firstBlocks-front}
 use Rattle.runs.specs.Limits.{longestBlock, limit}
 use Rattle.record.specs.declared.Record.{Record}
 use Rattle.record.specs.declared.Outcome.{Outcome}
-use Rattle.record.specs.Record.{heldBytes, sound, refused}
+use Rattle.record.specs.Record.{heldOf, heldBytes, sound, refused}
 use Rattle.record.proofs.Sound.{sounds}
-use Rattle.record.proofs.Held.{fill-lt}
 use Rattle.append.specs.Append.{appended, appendAccepted}
-use Rattle.append.proofs.Held.{total-is}
-use Rattle.append.proofs.Appending.{fill, short}
+use Rattle.append.proofs.Held.{total-is, rest-length, held-after}
 use Rattle.append.proofs.Joins.{append-joins}
 use Rattle.append.proofs.Sound.{appended-chain, appended-sound}
 use Rattle.roll.specs.declared.Way.{Way}
@@ -34,7 +31,7 @@ use Rattle.roll.specs.Slots.{slotCount}
 use Rattle.roll.specs.Roll.{links, isRoll, spacing, checkpoints, isRollOf}
 use Rattle.roll.specs.Checkpoints.{laid, laidAfter}
 use Rattle.roll.specs.Way.{wayOf}
-use Rattle.roll.proofs.Spacing.{step, at-checkpoint, blocks-at, reached, unreached, no-fewer}
+use Rattle.roll.proofs.Spacing.{step, at-checkpoint, blocks-at, unreached, no-fewer}
 use Rattle.roll.proofs.Form.{roll-of}
 use Rattle.roll.proofs.Shown.{laid-size, laid-links, laid-roll}
 use Rattle.append_roll.specs.AppendRoll.{due, isFull, appendRollAnswer, appendRollCall, checkpointChain, appendedRoll}
@@ -82,7 +79,7 @@ unfolding appendAccepted
 few-blocks r p = omega (arith, div-le-self (r .total + length p) (blockBytes (sizeOf (r .w))))
 
 -- the roll with every checkpoint that is due
-abbrev goal-of : Record → List ℕ → List ℕ → List ℕ
+abbrev pub goal-of : Record → List ℕ → List ℕ → List ℕ
 goal-of r piece roll = laidAfter (sizeOf (r .w)) (checkpointChain r piece) (checkpoints (r .w) (r .total)) (due r (length piece)) roll
 
 -- the outcome and the roll by the number of the answer
@@ -118,22 +115,27 @@ module _ (r : Record) (piece : List ℕ) where
   abbrev have : ℕ → ℕ
   have at = checkpoints (r .w) (r .total + at)
 
-  pub record Parted (roll : List ℕ) (order : Record) (count : ℕ) (known : Way) (at size : ℕ) (now : List ℕ) : Type 0 where
+  -- the roll s with the checkpoints that are still due after at bytes
+  abbrev pub due-after : ℕ → List ℕ → List ℕ
+  due-after at s = laidAfter Z (checkpointChain r piece) (have at) (have (length piece) - have at) s
+
+  -- the roll after at bytes, where it was start after some
+  pub record Stage (start : ℕ) (from : List ℕ) (at : ℕ) (now : List ℕ) : Type 0 where
     pub upTo : at ≤ length piece
-    pub is : order ≡ so-far at
-    pub blocks : count ≡ (r .total + at) / B - r .total / B
     pub form : isRoll Z now ≡ true
-    pub way : known ≡ wayOf Z now
     pub many : length (links Z now) ≡ have at
-    pub same : length now ≡ length roll
-    pub next : r .total + (at + size) ≡ (have at + 1) * Q
-    pub rest : laidAfter Z (checkpointChain r piece) (have at) (have (length piece) - have at) now ≡ goal-of r piece roll
+    pub same : length now ≡ length from
+    pub rest : due-after at now ≡ due-after start from
+
+  -- and what goes with it at a checkpoint: the chain, the blocks run, and what is known of the roll
+  pub record Parted (start : ℕ) (from : List ℕ) (chain : List ℕ) (count : ℕ) (known : Way) (at : ℕ) (now : List ℕ) : Type 0 where
+    pub stage : Stage start from at now
+    pub reached : chain ≡ so-far at .chain
+    pub blocks : count ≡ (r .total + at) / B - r .total / B
+    pub way : known ≡ wayOf Z now
+    pub place : r .total + at ≡ have at * Q
 
   module _ (ok : sound r ≡ true) (words : length (r .chain) ≡ 16) (long : length (r .held) ≡ longestBlock) where
-    total-so-far : (at : ℕ) → at ≤ length piece → so-far at .total ≡ r .total + at
-    unfolding appended
-    total-so-far at le = ap (λ (n : ℕ). r .total + n) (length-take-le at piece le)
-
     -- more bytes have no fewer blocks
     blocks-more : (a b : ℕ) → a / B ≤ (a + b) / B
     blocks-more a b = le-div-iff-mul-le (block-some (r .w)) .1 (omega (arith, div-add-mod' a B))
@@ -150,12 +152,46 @@ module _ (r : Record) (piece : List ℕ) where
         ap (λ (bs : List (List ℕ)). forwards Z bs (r .chain))
         (sym (firstBlocks-front Z (length whole / B) whole q few) ∙ ap₂ (firstBlocks Z) n (append-assoc (heldBytes r) p q))
 
-    -- no piece at all
-    none : r ≡ so-far 0
-    unfolding appendAccepted
-    none =
-        (λ i. record { w = r .w; n = r .n; total = sym (add-zero (r .total)) i; chain = r .chain; held = paste-zero (r .held) (fill r) [] i })
-        ∙ sym (ap (λ (o : Outcome). o .next) (short r ok long [] (omega (arith, fill-lt r long))))
+    -- the chain at a checkpoint
+    chain-there : (at k : ℕ) → at ≤ length piece → r .total + at ≡ k * Q → so-far at .chain ≡ checkpointChain r piece k
+    unfolding checkpointChain
+    chain-there at k le e =
+        chain-front (take at piece) (drop at piece)
+        ∙ ap₂ (λ (n : ℕ) (s : List ℕ). forwards Z (firstBlocks Z (n - r .total / B) (heldBytes r ++ s)) (r .chain))
+        (ap (λ (n : ℕ). n / B) (ap (λ (n : ℕ). r .total + n) (length-take-le at piece le) ∙ e) ∙ blocks-at (r .w) k)
+        (take-append-drop at piece)
+
+    -- at a checkpoint no byte is held
+    module _ (at : ℕ) (le : at ≤ length piece) (k : ℕ) (place : r .total + at ≡ k * Q) where
+      none-held : restOf Z (heldBytes r ++ take at piece) ≡ []
+      none-held =
+          no-bytes (restOf Z (heldBytes r ++ take at piece))
+          (sym (rest-length r long (take at piece))
+          ∙ ap (λ (n : ℕ). (r .total + n) % B) (length-take-le at piece le)
+          ∙ ap (λ (n : ℕ). n % B) (place ∙ sym (mul-assoc k spacing B))
+          ∙ mul-mod-left (k * spacing) B)
+        where
+          no-bytes : (l : List ℕ) → length l ≡ 0 → l ≡ []
+          no-bytes [] e = refl
+          no-bytes (x ∷ l) e = absurd (omega arith)
+
+      pub order-there : (chain : List ℕ) → chain ≡ so-far at .chain
+          → _≡_ {A = Record} (record { w = r .w; n = r .n; total = r .total + at; chain = chain; held = heldOf [] }) (so-far at)
+      unfolding appended
+      order-there chain is =
+          λ i. record {
+            w = r .w;
+            n = r .n;
+            total = r .total + sym (length-take-le at piece le) i;
+            chain = is i;
+            held = heldOf (sym none-held i);
+          }
+
+      -- and further whole blocks go on from the chain there
+      pub goes-on : (p : List ℕ) → appended (so-far at) p .chain ≡ forwards Z (blocksOf Z p) (so-far at .chain)
+      unfolding appended
+      goes-on p =
+          ap (λ (s : List ℕ). forwards Z (blocksOf Z (s ++ p)) (so-far at .chain)) (held-after r long (take at piece) ∙ none-held)
 
     -- the next size bytes
     module _ (at size : ℕ) (le : at + size ≤ length piece) where
@@ -167,15 +203,6 @@ module _ (r : Record) (piece : List ℕ) where
 
       part-joins : appended (so-far at) part ≡ so-far (at + size)
       part-joins = append-joins r (sounds r ok .word) long (take at piece) part ∙ ap (appended r) (sym (take-add at size piece))
-
-      -- where they end at a checkpoint
-      part-chain : (k : ℕ) → r .total + (at + size) ≡ k * Q → so-far (at + size) .chain ≡ checkpointChain r piece k
-      unfolding checkpointChain
-      part-chain k e =
-          chain-front (take (at + size) piece) (drop (at + size) piece)
-          ∙ ap₂ (λ (n : ℕ) (s : List ℕ). forwards Z (firstBlocks Z (n - r .total / B) (heldBytes r ++ s)) (r .chain))
-          (ap (λ (n : ℕ). n / B) (ap (λ (n : ℕ). r .total + n) (length-take-le (at + size) piece le) ∙ e) ∙ blocks-at (r .w) k)
-          (take-append-drop (at + size) piece)
 
       -- the blocks run so far and those of the part
       part-count : ((r .total + at) / B - r .total / B) + (appendAccepted (so-far at) part .count) ≡ (r .total + (at + size)) / B - r .total / B
@@ -193,153 +220,199 @@ module _ (r : Record) (piece : List ℕ) where
       unfolding due
       room = omega (arith, pass .room, roll-parts .1, no-fewer (r .w) (r .total) (r .total + length piece) (omega arith))
 
-      pub parted-none : (y : Way) (size : ℕ) → y ≡ wayOf Z roll → r .total + size ≡ (checkpoints (r .w) (r .total) + 1) * Q → Parted roll r 0 y 0 size roll
+      start-is : have 0 ≡ checkpoints (r .w) (r .total)
+      start-is = ap (checkpoints (r .w)) (add-zero (r .total))
+
+      -- before the piece, and where the first checkpoint is not reached
+      stage-none : Stage 0 roll 0 roll
+      stage-none = record { upTo = zero-le; form = roll-parts .0; many = roll-parts .1 ∙ sym start-is; same = refl; rest = refl }
+
+      goal-is : due-after 0 roll ≡ goal-of r piece roll
       unfolding due
-      parted-none y size known next =
-          let zero-more : r .total + 0 ≡ r .total = add-zero (r .total) in
-          let start : have 0 ≡ checkpoints (r .w) (r .total) = ap (checkpoints (r .w)) zero-more in
-          record {
-            upTo = zero-le;
-            is = none;
-            blocks = omega (arith, ap (λ (n : ℕ). n / B) zero-more);
-            form = roll-parts .0;
-            way = known;
-            many = roll-parts .1 ∙ sym start;
-            same = refl;
-            next = ap (λ (n : ℕ). r .total + n) (zero-add size) ∙ next ∙ ap (λ (n : ℕ). (n + 1) * Q) (sym start);
-            rest = ap (λ (k : ℕ). laidAfter Z (checkpointChain r piece) k (have (length piece) - k) roll) start;
-          }
+      goal-is = ap (λ (k : ℕ). laidAfter Z (checkpointChain r piece) k (have (length piece) - k) roll) start-is
 
-      module _ {order : Record} {count : ℕ} {known : Way} {at size : ℕ} {now : List ℕ} (p : Parted roll order count known at size now) where
-        -- the record so far is taken by Append, with what is left of the piece
-        pub taken-on : (rest : ℕ) → at + rest ≤ length piece → (sound order ≡ true) × (order .total + rest ≤ limit) × (count ≤ limit)
-        taken-on rest le =
-            let t : order .total ≡ r .total + at = ap (λ (o : Record). o .total) (p .is) ∙ total-so-far at (p .upTo) in
-            let w : r .total + length piece ≤ limit = pass .within in (
-              subst (λ (o : Record). sound o ≡ true) (sym (p .is))
-                  (appended-sound r ok words long (take at piece) (omega (arith, length-take-le at piece (p .upTo)))),
-              omega arith,
-              omega (arith, p .blocks, div-le-self (r .total + at) B),
-            )
+      -- the record so far is taken by Append, with what is left of the piece
+      pub so-far-sound : (at : ℕ) → at ≤ length piece → sound (so-far at) ≡ true
+      so-far-sound at le =
+          appended-sound r ok words long (take at piece) (omega (arith, length-take-le at piece le, pass .within))
 
-        pub word-is : order .w ≡ r .w
-        unfolding appended
-        word-is = ap (λ (o : Record). o .w) (p .is)
+      module _ {start : ℕ} {from : List ℕ} (long-from : length from ≡ length roll) {at : ℕ} {now : List ℕ} (p : Stage start from at now) where
+        abbrev k : ℕ
+        k = have at
 
-        -- the next checkpoint lies ahead
-        pub part-some : 0 < size
-        part-some = go (decLt 0 size)
-          where
-            go : Dec (0 < size) → 0 < size
-            go (yes h) = h
-            go (no h) =
-                let here : (have at + 1) * Q ≤ r .total + at = omega (arith, p .next) in
-                absurd (omega (arith, reached (r .w) (have at + 1) (r .total + at) here))
-
-        -- a checkpoint is reached
-        module _ (le : at + size ≤ length piece) where
-          abbrev k : ℕ
-          k = have at
-
+        -- the next checkpoint is reached
+        module _ (size : ℕ) (le : at + size ≤ length piece) (next : r .total + (at + size) ≡ (k + 1) * Q) where
           have-next : have (at + size) ≡ k + 1
-          have-next = ap (checkpoints (r .w)) (p .next) ∙ at-checkpoint (r .w) (k + 1)
+          have-next = ap (checkpoints (r .w)) next ∙ at-checkpoint (r .w) (k + 1)
 
           more : k + 1 ≤ have (length piece)
           more = omega (arith, have-next, no-fewer (r .w) (r .total + (at + size)) (r .total + length piece) (omega arith))
 
           pub part-room : length (links Z now) < slotCount Z (length now)
-          part-room = rw (p .same) (omega (arith, p .many, more, room))
+          part-room = rw (p .same ∙ long-from) (omega (arith, p .many, more, room))
 
           abbrev t : List ℕ
           t = so-far (at + size) .chain
 
-          t-chain : Chain Z t
+          pub t-chain : Chain Z t
           t-chain = appended-chain r ok words long (take (at + size) piece)
 
-          t-is : t ≡ checkpointChain r piece (suc k)
-          t-is = part-chain at size le (suc k) (p .next ∙ ap (λ (n : ℕ). n * Q) (add-one k))
-
-          after : (left : ℕ) → have (length piece) - k ≡ suc left
-              → laidAfter Z (checkpointChain r piece) (suc k) left (laid Z t now) ≡ goal-of r piece roll
+          after : (left : ℕ) → have (length piece) - k ≡ suc left → laidAfter Z (checkpointChain r piece) (suc k) left (laid Z t now) ≡ due-after start from
           after left e =
-              ap (λ (c : List ℕ). laidAfter Z (checkpointChain r piece) (suc k) left (laid Z c now)) t-is
+              ap (λ (c : List ℕ). laidAfter Z (checkpointChain r piece) (suc k) left (laid Z c now))
+              (chain-there (at + size) (suc k) le (next ∙ ap (λ (n : ℕ). n * Q) (add-one k)))
               ∙ ap (λ (d : ℕ). laidAfter Z (checkpointChain r piece) k d now) (sym e)
               ∙ p .rest
 
-          -- the part is given, and appended to the record so far
-          module _ (given : List ℕ) (is-part : given ≡ part at size le) where
-            joined : appended order given ≡ so-far (at + size)
-            joined = ap₂ appended (p .is) is-part ∙ part-joins at size le
+          stage-more : {now' : List ℕ} → now' ≡ laid Z t now → Stage start from (at + size) now'
+          stage-more {now'} laid-is =
+              let ok8 = octets (r .w) in
+              let left : ℕ = have (length piece) - have (at + size) in
+              let down : have (length piece) - k ≡ suc left = omega (arith, have-next, more) in
+              record {
+                upTo = le;
+                form = ap (isRoll Z) laid-is ∙ laid-roll Z ok8 now (p .form) part-room t t-chain;
+                many =
+                    ap (λ (s : List ℕ). length (links Z s)) laid-is
+                    ∙ ap length (laid-links Z ok8 now (p .form) part-room t t-chain)
+                    ∙ length-append (links Z now) _
+                    ∙ ap (λ (n : ℕ). n + 1) (p .many)
+                    ∙ sym have-next;
+                same = ap length laid-is ∙ laid-size Z ok8 now (p .form) part-room t t-chain ∙ p .same;
+                rest =
+                    ap₂ (λ (j : ℕ) (s : List ℕ). laidAfter Z (checkpointChain r piece) j left s) (have-next ∙ add-one k) laid-is ∙ after left down;
+              }
 
-            pub parted-more : {order' : Record} {count' : ℕ} {known' : Way} {size' : ℕ} {now' : List ℕ}
-                → order' ≡ appended order given
-                → count' ≡ count + (appendAccepted order given .count)
-                → now' ≡ laid (sizeOf (order .w)) (appended order given .chain) now
-                → known' ≡ wayOf (sizeOf (order .w)) now'
-                → size' ≡ Q
-                → Parted roll order' count' known' (at + size) size' now'
-            parted-more {order'} {count'} {known'} {size'} {now'} eo ec en ek es =
-                let laid-is : now' ≡ laid Z t now = en ∙ ap₂ (λ (w : ℕ) (o : Record). laid (sizeOf w) (o .chain) now) word-is joined in
-                let ok8 = octets (r .w) in
-                let left : ℕ = have (length piece) - have (at + size) in
-                let down : have (length piece) - k ≡ suc left = omega (arith, have-next, more) in
-                record {
-                  upTo = le;
-                  is = eo ∙ joined;
-                  blocks =
-                      ec
-                      ∙ ap₂ (λ (o : Record) (s : List ℕ). count + (appendAccepted o s .count)) (p .is) is-part
-                      ∙ ap (λ (c : ℕ). c + (appendAccepted (so-far at) (part at size le) .count)) (p .blocks)
-                      ∙ part-count at size le;
-                  form = ap (isRoll Z) laid-is ∙ laid-roll Z ok8 now (p .form) part-room t t-chain;
-                  way = ek ∙ ap (λ (w : ℕ). wayOf (sizeOf w) now') word-is;
-                  many =
-                      ap (λ (s : List ℕ). length (links Z s)) laid-is
-                      ∙ ap length (laid-links Z ok8 now (p .form) part-room t t-chain)
-                      ∙ length-append (links Z now) _
-                      ∙ ap (λ (n : ℕ). n + 1) (p .many)
-                      ∙ sym have-next;
-                  same = ap length laid-is ∙ laid-size Z ok8 now (p .form) part-room t t-chain ∙ p .same;
-                  next =
-                      sym (add-assoc (r .total) (at + size) size')
-                      ∙ ap₂ (λ (a b : ℕ). a + b) (p .next) es
-                      ∙ sym (ap (λ (n : ℕ). (n + 1) * Q) have-next ∙ ap (λ (n : ℕ). n * Q) (add-one (k + 1)) ∙ suc-mul (k + 1) Q);
-                  rest =
-                      ap₂ (λ (j : ℕ) (s : List ℕ). laidAfter Z (checkpointChain r piece) j left s) (have-next ∙ add-one k) laid-is ∙ after left down;
-                }
+          place-next : r .total + (at + size) ≡ have (at + size) * Q
+          place-next = next ∙ ap (λ (n : ℕ). n * Q) (sym have-next)
 
         -- no further one is reached
-        module _ (less : length piece < at + size) where
-          have-all : have (length piece) ≡ have at
-          have-all =
-              omega (
-                arith,
-                unreached (r .w) (have at + 1) (r .total + length piece) (omega (arith, p .next)),
-                no-fewer (r .w) (r .total + at) (r .total + length piece) (omega (arith, p .upTo)),
-              )
+        pub stage-end : (size : ℕ) → length piece < at + size → r .total + (at + size) ≡ (k + 1) * Q → now ≡ due-after start from
+        stage-end size less next =
+            let none-left : have (length piece) - k ≡ 0 =
+            omega (
+              arith,
+              unreached (r .w) (k + 1) (r .total + length piece) (omega arith),
+              no-fewer (r .w) (r .total + at) (r .total + length piece) (omega (arith, p .upTo)),
+            ) in
+            ap (λ (d : ℕ). laidAfter Z (checkpointChain r piece) k d now) (sym none-left) ∙ p .rest
 
-          pub parted-roll : now ≡ goal-of r piece roll
-          parted-roll =
-              let none-left : have (length piece) - have at ≡ 0 = omega (arith, have-all) in
-              ap (λ (d : ℕ). laidAfter Z (checkpointChain r piece) (have at) d now) (sym none-left) ∙ p .rest
+      -- the first part
+      module _ (first : ℕ) (next : r .total + first ≡ (checkpoints (r .w) (r .total) + 1) * Q) where
+        next-first : r .total + (0 + first) ≡ (have 0 + 1) * Q
+        next-first = ap (λ (n : ℕ). r .total + n) (zero-add first) ∙ next ∙ ap (λ (n : ℕ). (n + 1) * Q) (sym start-is)
 
-        -- the end of the piece
-        pub parted-end : (rest : List ℕ) → rest ≡ drop at piece
+        -- it is longer than the piece
+        pub none-reached : length piece < first → roll ≡ goal-of r piece roll
+        none-reached less = stage-end refl stage-none first (omega arith) next-first ∙ goal-is
+
+        module _ (le : first ≤ length piece) where
+          reach : 0 + first ≤ length piece
+          reach = omega arith
+
+          pub first-room : length (links Z roll) < slotCount Z (length roll)
+          first-room = part-room refl stage-none first reach next-first
+
+          first-stage : {now : List ℕ} → now ≡ laid Z (so-far first .chain) roll → Stage 0 roll first now
+          first-stage {now} el =
+              let zero-first : 0 + first ≡ first = zero-add first in
+              subst (λ (n : ℕ). Stage 0 roll n now) zero-first
+              (stage-more refl stage-none first reach next-first (el ∙ ap (λ (n : ℕ). laid Z (so-far n .chain) roll) (sym zero-first)))
+
+          pub first-parted : {chain : List ℕ} {count : ℕ} {known : Way} {now : List ℕ}
+              → chain ≡ so-far first .chain → count ≡ appendAccepted r (take first piece) .count
+              → now ≡ laid Z (so-far first .chain) roll → known ≡ wayOf Z now
+              → Parted first now chain count known first now
+          unfolding appendAccepted
+          first-parted {chain} {count} {known} {now} ec en el ek =
+              let s : Stage 0 roll first now = first-stage el in
+              record {
+                stage = record { upTo = le; form = s .form; many = s .many; same = refl; rest = refl };
+                reached = ec;
+                blocks = en ∙ ap (λ (n : ℕ). (r .total + n) / B - r .total / B) (length-take-le first piece le);
+                way = ek;
+                place = subst (λ (n : ℕ). r .total + n ≡ have n * Q) (zero-add first) (place-next refl stage-none first reach next-first);
+              }
+
+          -- what is due then gives the roll that is wanted
+          pub first-rest : {now : List ℕ} → now ≡ laid Z (so-far first .chain) roll → (length now ≡ length roll) × (due-after first now ≡ goal-of r piece roll)
+          first-rest el = (first-stage el .same, first-stage el .rest ∙ goal-is)
+
+      -- the further parts
+      module _ {start : ℕ} {from : List ℕ} (long-from : length from ≡ length roll)
+          {chain : List ℕ} {count : ℕ} {known : Way} {at : ℕ} {now : List ℕ} (p : Parted start from chain count known at now) where
+        next-place : r .total + (at + Q) ≡ (have at + 1) * Q
+        next-place =
+            sym (add-assoc (r .total) at Q) ∙ ap (λ (n : ℕ). n + Q) (p .place)
+            ∙ sym (ap (λ (n : ℕ). n * Q) (add-one (have at)) ∙ suc-mul (have at) Q)
+
+        pub chain-ok : Chain Z chain
+        chain-ok = subst (Chain Z) (sym (p .reached)) (appended-chain r ok words long (take at piece))
+
+        pub count-few : count ≤ r .total + at
+        count-few = omega (arith, p .blocks, div-le-self (r .total + at) B)
+
+        module _ (le : at + Q ≤ length piece) where
+          pub next-room : length (links Z now) < slotCount Z (length now)
+          next-room = part-room long-from (p .stage) Q le next-place
+
+          -- a part is given, and its blocks run on the chain
+          module _ (given : List ℕ) (is-part : given ≡ part at Q le) where
+            chain-is-next : forwards Z (blocksOf Z given) chain ≡ so-far (at + Q) .chain
+            chain-is-next =
+                ap₂ (λ (g c : List ℕ). forwards Z (blocksOf Z g) c) is-part (p .reached)
+                ∙ sym (goes-on at (p .stage .upTo) (have at) (p .place) (part at Q le))
+                ∙ ap (λ (o : Record). o .chain) (part-joins at Q le)
+
+            pub parted-more : {end : ℕ} {chain' : List ℕ} {count' : ℕ} {known' : Way} {now' : List ℕ}
+                → end ≡ at + Q
+                → chain' ≡ forwards Z (blocksOf Z given) chain
+                → count' ≡ count + length given / B
+                → now' ≡ laid Z chain' now
+                → known' ≡ wayOf Z now'
+                → Parted start from chain' count' known' end now'
+            parted-more {end} {chain'} {count'} {known'} {now'} ee ec en el ek =
+                let there = ec ∙ chain-is-next in
+                subst (λ (n : ℕ). Parted start from chain' count' known' n now') (sym ee)
+                (record {
+                  stage = stage-more long-from (p .stage) Q le next-place (el ∙ ap (λ (c : List ℕ). laid Z c now) there);
+                  reached = there;
+                  blocks =
+                      en
+                      ∙ omega (
+                        arith,
+                        p .blocks,
+                        ap (λ (g : List ℕ). length g / B) is-part,
+                        ap (λ (n : ℕ). n / B) (part-length at Q le),
+                        mul-div-cancel spacing (block-some (r .w)),
+                        blocks-more (r .total) at,
+                        ap (λ (n : ℕ). n / B) (sym (add-assoc (r .total) at Q)),
+                        add-mul-div-right (r .total + at) spacing (block-some (r .w)),
+                      );
+                  way = ek;
+                  place = place-next long-from (p .stage) Q le next-place;
+                })
+
+        -- the end
+        pub parted-roll : length piece < at + Q → now ≡ due-after start from
+        parted-roll less = stage-end long-from (p .stage) Q less next-place
+
+        pub parted-end : (rest : List ℕ) → rest ≡ drop at piece → {order : Record} → order ≡ so-far at
             → _≡_ {A = Outcome}
             (record { number = 0; count = count + (appendAccepted order rest .count); next = appended order rest })
             (appendAccepted r piece)
         unfolding appendAccepted
-        parted-end rest is-rest =
+        parted-end rest is-rest {order} is =
             let size : ℕ = length piece - at in
-            let whole : at + size ≡ length piece = omega (arith, p .upTo) in
+            let whole : at + size ≡ length piece = omega (arith, p .stage .upTo) in
             let le : at + size ≤ length piece = omega arith in
             let is-part : rest ≡ part at size le =
             is-rest ∙ sym (take-all size (drop at piece) (omega (arith, length-drop at piece))) in
             let joined : appended order rest ≡ appended r piece =
-            ap₂ appended (p .is) is-part ∙ part-joins at size le
+            ap₂ appended is is-part ∙ part-joins at size le
             ∙ ap (appended r) (ap (λ (n : ℕ). take n piece) whole ∙ take-length piece) in
             let counted : count + (appendAccepted order rest .count) ≡ (r .total + length piece) / B - r .total / B =
-            ap₂ (λ (o : Record) (s : List ℕ). count + (appendAccepted o s .count)) (p .is) is-part
+            ap₂ (λ (o : Record) (s : List ℕ). count + (appendAccepted o s .count)) is is-part
             ∙ ap (λ (c : ℕ). c + (appendAccepted (so-far at) (part at size le) .count)) (p .blocks)
             ∙ part-count at size le
             ∙ ap (λ (n : ℕ). (r .total + n) / B - r .total / B) whole in

@@ -1,12 +1,15 @@
 // Append with a roll: a piece is added to an order in parts that end at every 64th block, and a checkpoint is laid at each.
 ghost use mathlib.Core.Path.{_≡_};
 ghost use mathlib.Core.Bool.{true};
-ghost use mathlib.Core.List.{List};
-ghost use Prim.Native.Nat.{ℕ, _+_, _*_, _<_, _≤_};
+ghost use mathlib.Core.List.{List, []};
+ghost use Prim.Native.Nat.{ℕ, _+_, _*_, _/_, _<_, _≤_};
 ghost use lib.ListN.{length};
-ghost use Rattle.lsh.specs.WordSize.{sizeOf, blockBytes};
+ghost use Rattle.lsh.specs.WordSize.{isWordSize, sizeOf, blockBytes};
+ghost use Rattle.lsh.specs.Block.{Chain, forwards};
+ghost use Rattle.lsh.specs.Padding.{blocksOf};
 ghost use Rattle.runs.specs.Limits.{limit};
-ghost use Rattle.record.specs.Record.{sound};
+ghost use Rattle.record.specs.declared.Record.{Record};
+ghost use Rattle.record.specs.Record.{heldOf, sound};
 ghost use Rattle.append.specs.Append.{appended, appendAccepted};
 ghost use Rattle.roll.specs.Slots.{slotCount};
 ghost use Rattle.roll.specs.Roll.{links, isRoll, spacing, checkpoints};
@@ -19,9 +22,9 @@ use record::Record;
 use roll::SPACING;
 use roll::Way;
 
-// An order within a piece: the record so far, how many blocks were run for it, and what is known of the roll.
+// An order at a checkpoint within a piece: the chain there, how many blocks were run, and what is known of the roll.
 struct Progress {
-    order: Record,
+    chain: [u64; 16],
     count: u64,
     known: Way,
 }
@@ -64,20 +67,19 @@ fn append_parts(r: Record, piece: &[u8], roll: &mut [u8], y: Way) -> Outcome
     requires { ⌜ (appendRollAnswer r (length (now piece)) (now roll) ≡ 0) × (y ≡ wayOf (sizeOf (r .w)) (now roll)) ⌝ }
     ensures { λ o. ⌜ (o ≡ appendAccepted r (now (piece .entry))) × (now (roll .exit) ≡ appendedRoll r (now (piece .entry)) (now (roll .entry))) ⌝ }
 {
-    let mut p = Progress {
-        order: r,
-        count: 0,
-        known: y,
-    };
-    let mut at: usize = 0;
-    let mut size = to_checkpoint(r.w, r.total);
-    while size <= piece.len() - at {
-        let end = at + size;
-        p = append_part(p, &piece[at..end], roll);
-        at = end;
-        size = between_checkpoints(r.w);
+    let first = to_checkpoint(r.w, r.total);
+    if piece.len() < first {
+        return append::accepted(r, piece);
     }
-    append_rest(p, &piece[at..])
+    let step = between_checkpoints(r.w);
+    let mut p = first_part(r, &piece[..first], roll, y);
+    let mut at = first;
+    while step <= piece.len() - at {
+        let end = at + step;
+        p = next_part(r.w, p, &piece[at..end], roll);
+        at = end;
+    }
+    last_part(r, p, at, &piece[at..])
 }
 
 // How many bytes an order of this total has to the next checkpoint.
@@ -96,35 +98,65 @@ fn between_checkpoints(w: u64) -> usize
     SPACING as usize * runs::block_bytes(w)
 }
 
-// A part that ends at a checkpoint, which is laid.
-fn append_part(p: Progress, part: &[u8], roll: &mut [u8]) -> Progress
-    requires { ⌜ (sound (p .order) ≡ true) × (p .order .total + length (now part) ≤ limit) × (p .count ≤ limit)
-        × (isRoll (sizeOf (p .order .w)) (now roll) ≡ true) × (p .known ≡ wayOf (sizeOf (p .order .w)) (now roll))
-        × (length (links (sizeOf (p .order .w)) (now roll)) < slotCount (sizeOf (p .order .w)) (length (now roll))) ⌝ }
-    ensures { λ q. ⌜ (q .order ≡ appended (p .order) (now (part .entry)))
-        × (q .count ≡ p .count + (appendAccepted (p .order) (now (part .entry)) .count))
-        × (now (roll .exit) ≡ laid (sizeOf (p .order .w)) (appended (p .order) (now (part .entry)) .chain) (now (roll .entry)))
-        × (q .known ≡ wayOf (sizeOf (p .order .w)) (now (roll .exit))) ⌝ }
+// The part up to the first checkpoint, which is laid.
+fn first_part(r: Record, part: &[u8], roll: &mut [u8], y: Way) -> Progress
+    requires { ⌜ (sound r ≡ true) × (r .total + length (now part) ≤ limit)
+        × (isRoll (sizeOf (r .w)) (now roll) ≡ true) × (y ≡ wayOf (sizeOf (r .w)) (now roll))
+        × (length (links (sizeOf (r .w)) (now roll)) < slotCount (sizeOf (r .w)) (length (now roll))) ⌝ }
+    ensures { λ q. ⌜ (q .chain ≡ appended r (now (part .entry)) .chain)
+        × (q .count ≡ appendAccepted r (now (part .entry)) .count)
+        × (now (roll .exit) ≡ laid (sizeOf (r .w)) (appended r (now (part .entry)) .chain) (now (roll .entry)))
+        × (q .known ≡ wayOf (sizeOf (r .w)) (now (roll .exit))) ⌝ }
 {
-    let order = p.order;
-    let known = p.known;
-    let o = append::accepted(order, part);
+    let o = append::accepted(r, part);
     let next = o.next;
     let chain = next.chain;
-    let y = roll::lay(order.w, known, roll, chain);
+    let known = roll::lay(r.w, y, roll, chain);
     Progress {
-        order: next,
-        count: p.count + o.count,
+        chain: chain,
+        count: o.count,
+        known: known,
+    }
+}
+
+// A part from a checkpoint to the next, which is laid. Its blocks are run straight from the piece.
+fn next_part(w: u64, p: Progress, part: &[u8], roll: &mut [u8]) -> Progress
+    requires { ⌜ (isWordSize w ≡ true) × Chain (sizeOf w) (p .chain) × (p .count + length (now part) ≤ limit)
+        × (isRoll (sizeOf w) (now roll) ≡ true) × (p .known ≡ wayOf (sizeOf w) (now roll))
+        × (length (links (sizeOf w) (now roll)) < slotCount (sizeOf w) (length (now roll))) ⌝ }
+    ensures { λ q. ⌜ (q .chain ≡ forwards (sizeOf w) (blocksOf (sizeOf w) (now (part .entry))) (p .chain))
+        × (q .count ≡ p .count + length (now (part .entry)) / blockBytes (sizeOf w))
+        × (now (roll .exit) ≡ laid (sizeOf w) (q .chain) (now (roll .entry)))
+        × (q .known ≡ wayOf (sizeOf w) (now (roll .exit))) ⌝ }
+{
+    let before = p.chain;
+    let known = p.known;
+    let run = runs::forward(w, before, part);
+    let chain = run.chain;
+    let y = roll::lay(w, known, roll, chain);
+    Progress {
+        chain: chain,
+        count: p.count + run.count as u64,
         known: y,
     }
 }
 
-// The last part, which reaches no checkpoint.
-fn append_rest(p: Progress, part: &[u8]) -> Outcome
-    requires { ⌜ (sound (p .order) ≡ true) × (p .order .total + length (now part) ≤ limit) × (p .count ≤ limit) ⌝ }
-    ensures { λ o. ⌜ o ≡ record { number = 0; count = p .count + (appendAccepted (p .order) (now (part .entry)) .count); next = appended (p .order) (now (part .entry)) } ⌝ }
+// The last part, from a checkpoint at the place at of the piece. It reaches no other.
+fn last_part(r: Record, p: Progress, at: usize, part: &[u8]) -> Outcome
+    requires { ⌜ (r .total + at + length (now part) ≤ limit) × (p .count ≤ limit)
+        × ((order : Record) → order ≡ record { w = r .w; n = r .n; total = r .total + at; chain = p .chain; held = heldOf [] } → sound order ≡ true) ⌝ }
+    ensures { λ o. ⌜ ((order : Record) → order ≡ record { w = r .w; n = r .n; total = r .total + at; chain = p .chain; held = heldOf [] }
+        → o ≡ record { number = 0; count = p .count + (appendAccepted order (now (part .entry)) .count); next = appended order (now (part .entry)) }) ⌝ }
 {
-    let order = p.order;
+    let chain = p.chain;
+    let held = runs::zero_bytes();
+    let order = Record {
+        w: r.w,
+        n: r.n,
+        total: r.total + at as u64,
+        chain: chain,
+        held: held,
+    };
     let o = append::accepted(order, part);
     let next = o.next;
     Outcome {

@@ -11,11 +11,15 @@ lineBytes = 262144
 abbrev pub stringBytes : ℕ
 stringBytes = 131072
 
+-- ROLL: the most bytes of a roll
+abbrev pub rollBytes : ℕ
+rollBytes = 65536
+
 -- DIGITS: the most digits of a number of 64 bits. No buffer of the program's own has this length, so what is proved is that DIGITS are enough
 abbrev pub digits : ℕ
 digits = 20
 
 -- ROOM: the bytes of the line buffer. What a line prints stands behind the line's name: four numbers at most, and then the digits of BYTES bytes at
--- most, or those of a chain and of the held bytes
+-- most, which a roll has fewer of, or those of a chain and of the held bytes
 abbrev pub roomBytes : ℕ
 roomBytes = 2 * lineBytes + 1024

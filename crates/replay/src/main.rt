@@ -5,12 +5,13 @@ mod input;
 mod order;
 mod receipts;
 mod reply;
+mod rolls;
 mod words;
 
 ghost use mathlib.Core.Path.{_≡_};
 ghost use Prim.Native.Nat.{_≤_};
 ghost use lib.ListN.{length};
-ghost use Rattle.replay.specs.Sizes.{stringBytes, roomBytes};
+ghost use Rattle.replay.specs.Sizes.{stringBytes, rollBytes, roomBytes};
 use input::Place;
 use record::Record;
 
@@ -20,12 +21,17 @@ const LINE: usize = 262144;
 // The most bytes that the words of a line can say, two digits each.
 const BYTES: usize = 131072;
 
+// The most bytes of a roll.
+const ROLL: usize = 65536;
+
 // Room for a line, and behind its name for what it prints.
 const ROOM: usize = 2 * LINE + 1024;
 
 // What is kept between lines.
 struct Kept {
     record: Record,
+    // How many bytes the roll has.
+    roll: u64,
     // How many lines have ended.
     lines: u64,
     // Whether to go on: there may be more input, and what was printed could be written.
@@ -37,7 +43,8 @@ fn main() {
     let mut line = line_buffer();
     let mut given = bytes_buffer();
     let mut output = bytes_buffer();
-    replay(&mut chunk, &mut line, &mut given, &mut output);
+    let mut roll = roll_buffer();
+    replay(&mut chunk, &mut line, &mut given, &mut output, &mut roll);
 }
 
 fn line_buffer() -> [u8; ROOM]
@@ -52,16 +59,22 @@ fn bytes_buffer() -> [u8; BYTES]
     [0; BYTES]
 }
 
+fn roll_buffer() -> [u8; ROLL]
+    ensures { λ r. ⌜ rollBytes ≡ length r ⌝ }
+{
+    [0; ROLL]
+}
+
 // A proved loop has to end, and nothing says that the input does, so the turns are counted down from a number that no run uses up.
-fn replay(chunk: &mut [u8], line: &mut [u8], given: &mut [u8], output: &mut [u8])
-    requires { ⌜ (roomBytes ≤ length (now line)) × (length (now output) ≤ stringBytes) ⌝ }
+fn replay(chunk: &mut [u8], line: &mut [u8], given: &mut [u8], output: &mut [u8], roll: &mut [u8])
+    requires { ⌜ (roomBytes ≤ length (now line)) × (length (now output) ≤ stringBytes) × (length (now roll) ≤ rollBytes) ⌝ }
 {
     let mut k = start();
     let mut p = input::start();
     let mut turns = u64::MAX;
     while turns > 0 && k.on {
         p = input::go_on(p, chunk, line);
-        k = answer(k, p, line, given, output);
+        k = answer(k, p, line, given, output, roll);
         turns -= 1;
     }
 }
@@ -69,27 +82,35 @@ fn replay(chunk: &mut [u8], line: &mut [u8], given: &mut [u8], output: &mut [u8]
 // The record is all zeros at first, as a refused Open gives it.
 fn start() -> Kept {
     let o = record::open(0, 0);
-    after(o.next, 0, true)
+    after(o.next, 0, 0, true)
 }
 
-fn after(r: Record, lines: u64, on: bool) -> Kept {
+fn after(r: Record, roll: u64, lines: u64, on: bool) -> Kept {
     Kept {
         record: r,
+        roll: roll,
         lines: lines,
         on: on,
     }
 }
 
 // Answers the line, if one has ended.
-fn answer(k: Kept, p: Place, line: &mut [u8], given: &mut [u8], output: &mut [u8]) -> Kept
-    requires { ⌜ (roomBytes ≤ length (now line)) × (length (now output) ≤ stringBytes) ⌝ }
+fn answer(
+    k: Kept,
+    p: Place,
+    line: &mut [u8],
+    given: &mut [u8],
+    output: &mut [u8],
+    roll: &mut [u8],
+) -> Kept
+    requires { ⌜ (roomBytes ≤ length (now line)) × (length (now output) ≤ stringBytes) × (length (now roll) ≤ rollBytes) ⌝ }
 {
     if !p.ended {
-        return after(k.record, k.lines, p.more);
+        return after(k.record, k.roll, k.lines, p.more);
     }
-    let c = calls::answer(p.begun, line, k.record, given, output);
+    let c = calls::answer(p.begun, line, k, given, output, roll);
     let next = c.next;
     let number = std::num::wrapping_add_u64(k.lines, 1);
-    let printed = reply::print(p.begun, line, number, c, output);
-    after(next, number, printed & p.more)
+    let printed = reply::print(p.begun, line, number, c, output, roll);
+    after(next, c.roll, number, printed & p.more)
 }

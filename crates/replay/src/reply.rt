@@ -3,7 +3,7 @@ ghost use Prim.Native.Nat.{_+_, _*_, _<_, _≤_};
 ghost use lib.ListN.{length};
 ghost use Rattle.runs.specs.Limits.{longestBlock};
 ghost use Rattle.script.specs.Numbers.{wideChain};
-ghost use Rattle.replay.specs.Sizes.{lineBytes, stringBytes, digits, roomBytes};
+ghost use Rattle.replay.specs.Sizes.{lineBytes, stringBytes, rollBytes, digits, roomBytes};
 use crate::LINE;
 use crate::words;
 use libc::STDERR_FILENO;
@@ -15,7 +15,7 @@ use script::WIDE_CHAIN;
 // The most digits of a number.
 const DIGITS: usize = 20;
 
-// What comes behind the name of a line and its numbers: nothing, yes, no, the output, or the words of the record.
+// What comes behind the name of a line and its numbers: nothing, yes, no, the output, the words of the record, or the roll.
 pub const NAME: u32 = 0;
 
 const YES: u32 = 1;
@@ -26,20 +26,25 @@ const OUTPUT: u32 = 3;
 
 const RECORD: u32 = 4;
 
+const ROLL: u32 = 5;
+
 // A line that prints nothing, and, from TOO_LONG on, those that are no call.
-pub const NOTHING: u32 = 5;
+pub const NOTHING: u32 = 6;
 
-pub const TOO_LONG: u32 = 6;
+pub const TOO_LONG: u32 = 7;
 
-pub const NOT_A_CALL: u32 = 7;
+pub const NOT_A_CALL: u32 = 8;
 
-// The answer to a line: what it prints, with the first count of the numbers and the first size bytes of the output, and the record that is kept.
+// The answer to a line: what it prints, with the first count of the numbers and the first size bytes of the output or the roll, and the record that is
+// kept.
 pub struct Reply {
     what: u32,
     count: usize,
     numbers: [u64; 4],
     size: u64,
     pub next: Record,
+    // How many bytes the roll has after the line.
+    pub roll: u64,
 }
 
 fn reply_of(what: u32, count: usize, numbers: [u64; 4], size: u64, r: Record) -> Reply {
@@ -50,7 +55,14 @@ fn reply_of(what: u32, count: usize, numbers: [u64; 4], size: u64, r: Record) ->
         numbers: x,
         size: size,
         next: r,
+        roll: 0,
     }
+}
+
+// The same where the roll has so many bytes.
+pub fn with_roll(size: u64, mut c: Reply) -> Reply {
+    c.roll = size;
+    c
 }
 
 pub fn plain(what: u32, r: Record) -> Reply {
@@ -89,16 +101,21 @@ pub fn record(r: Record) -> Reply {
     reply_of(RECORD, 3, [r.w, r.n, r.total, 0], 0, r)
 }
 
+// The first size bytes of the roll.
+pub fn roll(size: u64, r: Record) -> Reply {
+    reply_of(ROLL, 0, [0, 0, 0, 0], size, r)
+}
+
 // Prints what line k prints, which has n bytes and stands in the buffer: behind its name, or behind its number if it is no call. Answers whether that
 // went well.
-pub fn print(n: usize, line: &mut [u8], k: u64, c: Reply, output: &[u8]) -> bool
-    requires { ⌜ (roomBytes ≤ length (now line)) × (length (now output) ≤ stringBytes) ⌝ }
+pub fn print(n: usize, line: &mut [u8], k: u64, c: Reply, output: &[u8], roll: &[u8]) -> bool
+    requires { ⌜ (roomBytes ≤ length (now line)) × (length (now output) ≤ stringBytes) × (length (now roll) ≤ rollBytes) ⌝ }
 {
     if c.what == NOTHING {
         return true;
     }
     let at = put_front(n, line, k, c);
-    let end = put_rest(line, at, c, output);
+    let end = put_rest(line, at, c, output, roll);
     write(line, end)
 }
 
@@ -161,14 +178,15 @@ fn put_number(line: &mut [u8], from: usize, x: u64) -> usize
 }
 
 // What comes behind that.
-fn put_rest(line: &mut [u8], from: usize, c: Reply, output: &[u8]) -> usize
-    requires { ⌜ (roomBytes ≤ length (now line)) × (from ≤ lineBytes + 4 * (1 + digits)) × (length (now output) ≤ stringBytes) ⌝ }
+fn put_rest(line: &mut [u8], from: usize, c: Reply, output: &[u8], roll: &[u8]) -> usize
+    requires { ⌜ (roomBytes ≤ length (now line)) × (from ≤ lineBytes + 4 * (1 + digits)) × (length (now output) ≤ stringBytes) × (length (now roll) ≤ rollBytes) ⌝ }
     ensures { λ r. ⌜ r < roomBytes ⌝ }
 {
     let what = c.what;
     match what {
         OUTPUT => put_output(line, from, c.size, output),
         RECORD => put_record(line, from, c.next),
+        ROLL => put_output(line, from, c.size, roll),
         _ => put_words(line, from, what),
     }
 }
@@ -186,6 +204,7 @@ fn put_words(line: &mut [u8], from: usize, what: u32) -> usize
     }
 }
 
+// The first size bytes of the output, or of the roll.
 fn put_output(line: &mut [u8], from: usize, size: u64, output: &[u8]) -> usize
     requires { ⌜ (roomBytes ≤ length (now line)) × (from ≤ lineBytes + 4 * (1 + digits)) × (length (now output) ≤ stringBytes) ⌝ }
     ensures { λ r. ⌜ r < roomBytes ⌝ }

@@ -1,6 +1,7 @@
 // The words of a line, read by the form of its call.
 ghost use Prim.Native.Nat.{_≤_};
 ghost use lib.ListN.{length};
+use crate::ROLL;
 use script::Number;
 
 // The most words of a line after its name.
@@ -19,7 +20,7 @@ pub struct Words {
     // Whether the words so far are those of the form.
     pub is: bool,
     // One value for each: of a number itself; of LAST the byte; of BYTES, which stand end to end in one buffer, the place where they end; of SIZE, and
-    // of BYTES that are lent as an output, how many bytes the output has.
+    // of BYTES that are lent as an output, how many bytes the output or the roll has.
     pub values: [u64; WORDS],
     // How many bytes the output has.
     pub size: u64,
@@ -30,7 +31,7 @@ pub struct Words {
 }
 
 // Reads the words of a line by a form, which has a letter for each word after the name: n a number, l LAST, s SIZE, b BYTES, o BYTES that are lent as
-// an output. A dash is the form without words.
+// an output, r SIZE of a roll, c BYTES of a roll. A dash is the form without words.
 pub fn read(place: usize, line: &[u8], form: &[u8], given: &mut [u8], output: &mut [u8]) -> Words {
     let mut w = none(place, script::until(line, b' '));
     let end = letters(form);
@@ -117,7 +118,7 @@ fn size_after(letter: u8, before: u64, value: u64) -> u64 {
 
 fn used_after(letter: u8, before: u64, value: u64) -> u64 {
     match letter {
-        b'b' => value,
+        b'b' | b'c' => value,
         _ => before,
     }
 }
@@ -130,6 +131,8 @@ fn value(letter: u8, word: &[u8], used: u64, given: &mut [u8], output: &mut [u8]
         b's' => size(word, output),
         b'b' => bytes(word, used, given),
         b'o' => lent(word, output),
+        b'r' => roll_size(word),
+        b'c' => roll_bytes(word, used, given),
         _ => no_value(),
     }
 }
@@ -179,6 +182,23 @@ fn lent(word: &[u8], output: &mut [u8]) -> Number {
         is: n.is,
         value: n.count as u64,
     }
+}
+
+// SIZE of a roll.
+fn roll_size(word: &[u8]) -> Number {
+    let v = script::read_number(word);
+    if (ROLL as u64) < v.value {
+        return no_value();
+    }
+    v
+}
+
+// BYTES of a roll. Each byte has two digits.
+fn roll_bytes(word: &[u8], used: u64, given: &mut [u8]) -> Number {
+    if 2 * ROLL < word.len() {
+        return no_value();
+    }
+    bytes(word, used, given)
 }
 
 // The size if a buffer has as many bytes, else 0.

@@ -1,29 +1,33 @@
--- `append_roll::append_parts` meets its contract. Assumes nothing.
+-- `append_roll::append_parts` meets its contract: the parts of the piece between its checkpoints. Assumes nothing.
 use mathlib.Core.Path.{_≡_, refl, sym, ap, _∙_, subst}
-use mathlib.Core.List.{List}
-use Prim.Native.Nat.{ℕ, _+_, _-_, _≤_, _<_}
+use mathlib.Core.Bool.{true}
+use mathlib.Core.List.{List, []}
+use Prim.Native.Nat.{ℕ, _+_, _-_, _*_, _≤_, _<_}
 use native.Mathlib.Omega.{arith}
 use lib.ListN.{length, take, drop, length-drop}
 use lib.Seq.{length-take-le}
 use borrow.Author.Needs.{needs}
-use mathlib.Core.Bool.{true}
-use Rattle.lsh.specs.WordSize.{sizeOf}
-use Rattle.runs.specs.Limits.{longestBlock}
+use Rattle.lsh.specs.WordSize.{WordSize, sizeOf}
+use Rattle.lsh.proofs.Figures.{block-some}
+use Rattle.runs.specs.Limits.{longestBlock, limit}
 use Rattle.runs.proofs.Rest.{from-place}
 use Rattle.record.specs.declared.Record.{Record}
-use Rattle.record.proofs.Sound.{sounds}
-use Rattle.roll.specs.Slots.{slotCount}
-use Rattle.roll.specs.Roll.{links, isRoll}
-use Rattle.roll.specs.Way.{wayOf}
-use Rattle.append_roll.proofs.Parts.{Accepted, accepted, accepted-roll, Parted, parted-none, part-some, part-room, taken-on, word-is, parted-more, parted-roll, parted-end}
+use Rattle.record.specs.Record.{heldOf, sound}
+use Rattle.record.proofs.Sound.{Sound, sounds}
+use Rattle.append.specs.Append.{appended}
+use Rattle.roll.specs.Roll.{checkpoints}
+use Rattle.roll.specs.Checkpoints.{laid}
+use Rattle.roll.proofs.Form.{roll-of}
+use Rattle.roll.proofs.Spacing.{step}
+use Rattle.append_roll.proofs.Parts.{Accepted, accepted, goal-of, accepted-roll, due-after, Stage, Parted, so-far-sound, none-reached, first-room, first-parted, first-rest, chain-ok, count-few, next-room, parted-more, parted-roll, parted-end, order-there}
 use Rattle.append_roll.proofs.append_parts.Statement.{statement}
 use Rattle.append_roll.proofs.append_parts.Tie as tie
 
 abbrev Inv-loop : tie.InvT-loop
-Inv-loop r piece roll₀ p₀ at₀ size₀ roll p at size = Parted r piece roll₀ (p .order) (p .count) (p .known) at size roll
+Inv-loop r piece roll₀ first step p₀ at₀ roll p at = Parted r piece at₀ roll₀ (p .chain) (p .count) (p .known) at roll
 
 abbrev μ-loop : tie.MeasureT-loop
-μ-loop r piece roll₀ p₀ at₀ size₀ roll p at size = length piece - at
+μ-loop r piece roll₀ first step p₀ at₀ roll p at = length piece - at
 
 -- at the entry
 module _ (z : tie.Start Inv-loop μ-loop) where
@@ -45,79 +49,160 @@ module _ (z : tie.Start Inv-loop μ-loop) where
   long : length (R .held) ≡ longestBlock
   long = search needs
 
--- a part that reaches a checkpoint
-module _ (c : tie.In-loop Inv-loop μ-loop) where
-  abbrev at-start : tie.Start Inv-loop μ-loop
-  at-start = c .before .before .before .before .before
+  is : Sound R
+  is = sounds R (pass .taken)
 
+-- the first checkpoint is reached
+module _ (c : tie.Else1 Inv-loop μ-loop) where
+  abbrev begun : tie.Start Inv-loop μ-loop
+  begun = c .before .before .before .before
+
+  abbrev first : ℕ
+  first = c .before .to-checkpoint .result
+
+  next : R begun .total + first ≡ (checkpoints (R begun .w) (R begun .total) + 1) * step (R begun .w)
+  next = c .before .to-checkpoint .ensures
+
+  le : first ≤ length (P begun)
+  le = c .if1 .left
+
+  first-length : length (take first (P begun)) ≡ first
+  first-length = length-take-le first (P begun) le
+
+first-part-requires : tie.Need-first-part-requires Inv-loop μ-loop
+first-part-requires c κs =
+    let e = c .before .before .before in
+    let z = begun e in
+    let of = roll-of (R z) (S z) (pass z .rollOf) in (
+      pass z .taken,
+      omega (arith, pass z .within, first-length e, le e),
+      of .0,
+      z .pre .1,
+      first-room (R z) (P z) (pass z .taken) (words z) (long z) (S z) (pass z) (first e) (next e) (le e),
+    )
+
+-- at the head of the loop
+module _ (l : tie.At-loop Inv-loop μ-loop) where
+  abbrev entered : tie.Else1 Inv-loop μ-loop
+  entered = l .before .before .before .before .before .before .before
+
+  abbrev from-start : tie.Start Inv-loop μ-loop
+  from-start = begun entered
+
+  abbrev Q : ℕ
+  Q = l .before .before .before .before .before .before .between-checkpoints .result
+
+  step-is : Q ≡ step (R from-start .w)
+  step-is = l .before .before .before .before .before .before .between-checkpoints .ensures
+
+  laid-first : l .before .before .before .first-part .last .1 .1 .0 ≡ laid (sizeOf (R from-start .w)) (appended (R from-start) (take (first entered) (P from-start)) .chain) (S from-start)
+  laid-first = l .before .before .before .first-part .ensures .2
+
+  rest-first : (length (l .before .before .before .first-part .last .1 .1 .0) ≡ length (S from-start))
+      × (due-after (R from-start) (P from-start) (first entered) (l .before .before .before .first-part .last .1 .1 .0) ≡ goal-of (R from-start) (P from-start) (S from-start))
+  rest-first =
+      first-rest (R from-start) (P from-start) (pass from-start .taken) (words from-start) (long from-start) (S from-start) (pass from-start) (first entered) (next entered) (le entered) laid-first
+
+-- a part to the next checkpoint
+module _ (c : tie.In-loop Inv-loop μ-loop) where
   abbrev A : ℕ
   A = c .before .loop .at
 
-  abbrev N : ℕ
-  N = c .before .loop .size
+  abbrev start-of : tie.Start Inv-loop μ-loop
+  start-of = from-start (c .before)
 
   abbrev given : List ℕ
-  given = take (A + N - A) (drop A (P at-start))
+  given = take (A + Q (c .before) - A) (drop A (P start-of))
 
-  reaches : A + N ≤ length (P at-start)
-  reaches = omega (arith, c .before .loop .inv .upTo)
+  reaches : A + Q (c .before) ≤ length (P start-of)
+  reaches = omega (arith, c .before .loop .inv .stage .upTo)
 
-  is-part : given ≡ take N (drop A (P at-start))
-  is-part = let e : A + N - A ≡ N = omega arith in ap (λ (n : ℕ). take n (drop A (P at-start))) e
+  reaches-step : A + step (R start-of .w) ≤ length (P start-of)
+  reaches-step = rw (← (step-is (c .before))) reaches
 
-  given-length : length given ≡ N
-  given-length = ap length is-part ∙ length-take-le N (drop A (P at-start)) (omega (arith, reaches, length-drop A (P at-start)))
+  is-part : given ≡ take (step (R start-of .w)) (drop A (P start-of))
+  is-part =
+      let e : A + Q (c .before) - A ≡ step (R start-of .w) = omega (arith, step-is (c .before)) in
+      ap (λ (n : ℕ). take n (drop A (P start-of))) e
 
-append-part-requires : tie.Need-append-part-requires Inv-loop μ-loop
-append-part-requires c κs =
+  given-length : length given ≡ step (R start-of .w)
+  given-length =
+      ap length is-part ∙ length-take-le (step (R start-of .w)) (drop A (P start-of)) (omega (arith, reaches-step, length-drop A (P start-of)))
+
+next-part-requires : tie.Need-next-part-requires Inv-loop μ-loop
+next-part-requires c κs =
     let i = c .before .before in
-    let z = at-start i in
-    let p = i .before .loop .inv in
-    let on = taken-on (R z) (P z) (pass z .taken) (words z) (long z) (S z) (pass z) p (N i) (reaches i) in
-    let w = word-is (R z) (P z) (pass z .taken) (words z) (long z) (S z) (pass z) p in (
-      on .0,
-      omega (arith, on .1, given-length i),
-      on .2,
-      subst (λ (v : ℕ). isRoll (sizeOf v) (i .before .loop .roll) ≡ true) (sym w) (p .form),
-      subst (λ (v : ℕ). i .before .loop .p .known ≡ wayOf (sizeOf v) (i .before .loop .roll)) (sym w) (p .way),
-      subst (λ (v : ℕ). length (links (sizeOf v) (i .before .loop .roll)) < slotCount (sizeOf v) (length (i .before .loop .roll))) (sym w)
-          (part-room (R z) (P z) (pass z .taken) (words z) (long z) (S z) (pass z) p (reaches i)),
+    let z = start-of i in
+    let p = i .before .loop .inv in (
+      is z .word,
+      chain-ok (R z) (P z) (pass z .taken) (words z) (long z) (S z) (pass z) (rest-first (i .before) .0) p,
+      omega (
+        arith,
+        count-few (R z) (P z) (pass z .taken) (words z) (long z) (S z) (pass z) (rest-first (i .before) .0) p,
+        given-length i,
+        reaches-step i,
+        pass z .within,
+      ),
+      p .stage .form,
+      p .way,
+      next-room (R z) (P z) (pass z .taken) (words z) (long z) (S z) (pass z) (rest-first (i .before) .0) p (reaches-step i),
     )
 
 loop-again : tie.Need-loop-again Inv-loop μ-loop
 loop-again c =
-    let a = c .before .before .before in
-    let i = a .before .before .before in
-    let z = at-start i in
-    let e = a .append-part .ensures in
-    parted-more (R z) (P z) (pass z .taken) (words z) (long z) (S z) (pass z) (i .before .loop .inv) (reaches i) (given i) (is-part i) (e .0) (e .1) (e .2) (e .3)
-    (c .between-checkpoints .ensures)
+    let n = c .before .before in
+    let i = n .before .before .before in
+    let z = start-of i in
+    let e = n .next-part .ensures in
+    parted-more (R z) (P z) (pass z .taken) (words z) (long z) (S z) (pass z) (rest-first (i .before) .0) (i .before .loop .inv) (reaches-step i) (given i) (is-part i)
+    (ap (λ (q : ℕ). A i + q) (step-is (i .before))) (e .0) (e .1) (e .2) (e .3)
 
 -- the rest
 module _ (c : tie.After-loop Inv-loop μ-loop) where
-  abbrev from-start : tie.Start Inv-loop μ-loop
-  from-start = c .before .before .before .before .before
+  abbrev Y : tie.Start Inv-loop μ-loop
+  Y = from-start (c .before)
 
-  rest-is : take (length (P from-start) - c .before .loop .at) (drop (c .before .loop .at) (P from-start)) ≡ drop (c .before .loop .at) (P from-start)
-  rest-is = from-place (P from-start) (c .before .loop .at)
+  abbrev E : ℕ
+  E = c .before .loop .at
 
-append-rest-requires : tie.Need-append-rest-requires Inv-loop μ-loop
-append-rest-requires c κs =
+  rest-is : take (length (P Y) - E) (drop E (P Y)) ≡ drop E (P Y)
+  rest-is = from-place (P Y) E
+
+  there : (order : Record)
+      → order ≡ record { w = R Y .w; n = R Y .n; total = R Y .total + E; chain = c .before .loop .p .chain; held = heldOf [] }
+      → order ≡ appended (R Y) (take E (P Y))
+  there order made =
+      let p = c .before .loop .inv in
+      made ∙ order-there (R Y) (P Y) (pass Y .taken) (words Y) (long Y) E (p .stage .upTo) _ (p .place) (c .before .loop .p .chain) (p .reached)
+
+last-part-requires : tie.Need-last-part-requires Inv-loop μ-loop
+last-part-requires c κs =
     let l = c .before in
-    let z = from-start l in
-    let p = l .before .loop .inv in
-    let le : l .before .loop .at + (length (P z) - l .before .loop .at) ≤ length (P z) = omega (arith, p .upTo) in
-    let on = taken-on (R z) (P z) (pass z .taken) (words z) (long z) (S z) (pass z) p (length (P z) - l .before .loop .at) le in
-    (on .0, omega (arith, on .1, ap length (rest-is l), length-drop (l .before .loop .at) (P z)), on .2)
+    let z = Y l in
+    let p = l .before .loop .inv in (
+      omega (arith, ap length (rest-is l), length-drop (E l) (P z), p .stage .upTo, pass z .within),
+      omega (
+        arith,
+        count-few (R z) (P z) (pass z .taken) (words z) (long z) (S z) (pass z) (rest-first (l .before) .0) p,
+        p .stage .upTo,
+        pass z .within,
+      ),
+      λ order made.
+      subst (λ (o : Record). sound o ≡ true) (sym (there l order made))
+          (so-far-sound (R z) (P z) (pass z .taken) (words z) (long z) (S z) (pass z) (E l) (p .stage .upTo)),
+    )
 
-returns : tie.Need-returns Inv-loop μ-loop
-returns c =
+returns-2 : tie.Need-returns-2 Inv-loop μ-loop
+returns-2 c =
     let l = c .before .before in
-    let z = from-start l in
+    let z = Y l in
     let p = l .before .loop .inv in
-    let less : length (P z) < l .before .loop .at + l .before .loop .size = omega (arith, p .upTo) in (
-      c .append-rest .ensures ∙ parted-end (R z) (P z) (pass z .taken) (words z) (long z) (S z) (pass z) p _ (rest-is l),
-      parted-roll (R z) (P z) (pass z .taken) (words z) (long z) (S z) (pass z) p less ∙ accepted-roll (R z) (P z) (S z) (sym (z .pre .0)) refl,
+    let made : Record = record { w = R z .w; n = R z .n; total = R z .total + E l; chain = l .before .loop .p .chain; held = heldOf [] } in
+    let less : length (P z) < E l + step (R z .w) = omega (arith, p .stage .upTo, step-is (l .before)) in (
+      c .last-part .ensures made refl
+          ∙ parted-end (R z) (P z) (pass z .taken) (words z) (long z) (S z) (pass z) (rest-first (l .before) .0) p _ (rest-is l) (there l made refl),
+      parted-roll (R z) (P z) (pass z .taken) (words z) (long z) (S z) (pass z) (rest-first (l .before) .0) p less
+          ∙ rest-first (l .before) .1 ∙ accepted-roll (R z) (P z) (S z) (sym (z .pre .0)) refl,
     )
 
 pub append-parts-spec : {M : Type 1} → statement M
@@ -126,25 +211,36 @@ append-parts-spec =
     (tie.spec
     Inv-loop
     μ-loop
-    (λ c κs. let z = c .before .before in sounds (R z) (pass z .taken) .few)
+    (λ c κs. is (c .before .before) .few)
+    (λ c κs. let z = c .before .before .before .before in (pass z .taken, pass z .within))
     (λ c.
-    let z = c .before .before .before in
-    parted-none (R z) (P z) (pass z .taken) (words z) (long z) (S z) (pass z) _ _ (z .pre .1) (c .to-checkpoint .ensures))
-    (λ c. c .loop .inv .upTo)
+    let t = c .before .before in
+    let z = t .before .before .before in (
+      c .accepted .ensures,
+      none-reached (R z) (P z) (pass z .taken) (words z) (long z) (S z) (pass z) _ (t .to-checkpoint .ensures) (c .before .if1 .taken)
+          ∙ accepted-roll (R z) (P z) (S z) (sym (z .pre .0)) refl,
+    ))
+    (λ c κs. tt)
+    (λ c. sym (first-length (c .before .before)))
+    first-part-requires
+    (λ c.
+    let e = c .before .before .before .before .before .before in
+    let z = begun e in
+    let f = c .before .before .first-part .ensures in
+    first-parted (R z) (P z) (pass z .taken) (words z) (long z) (S z) (pass z) (first e) (next e) (le e) (f .0) (f .1) (f .2) (f .3))
+    (λ c. c .loop .inv .stage .upTo)
     (λ c. record { fits = omega (arith, reaches c) })
     (λ c. omega arith)
     (λ c. omega arith)
     (λ c. reaches c)
-    append-part-requires
-    (λ c κs. tt)
+    next-part-requires
     (λ c.
-    let i = c .before .before .before .before .before .before in
-    let z = at-start i in
-    omega (arith, reaches i, part-some (R z) (P z) (pass z .taken) (words z) (long z) (S z) (pass z) (i .before .loop .inv)))
+    let i = c .before .before .before .before .before in
+    omega (arith, reaches i, step-is (i .before), block-some (R (start-of i) .w)))
     loop-again
-    (λ c. c .before .loop .inv .upTo)
-    (λ c. c .before .loop .inv .upTo)
+    (λ c. c .before .loop .inv .stage .upTo)
+    (λ c. c .before .loop .inv .stage .upTo)
     (λ c. search needs)
-    append-rest-requires
-    (λ c. c .before .before .before .loop .inv .same)
-    returns)
+    last-part-requires
+    (λ c. c .before .before .before .loop .inv .stage .same ∙ rest-first (c .before .before .before) .0)
+    returns-2)

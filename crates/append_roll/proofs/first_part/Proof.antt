@@ -1,0 +1,55 @@
+-- `append_roll::first_part` meets its contract. Assumes nothing.
+use mathlib.Core.Path.{_≡_, sym, ap, _∙_, subst}
+use mathlib.Core.List.{List}
+use Prim.Native.Nat.{_+_}
+use native.Mathlib.Omega.{arith}
+use lib.ListN.{length}
+use borrow.Author.Needs.{needs}
+use Rattle.lsh.specs.WordSize.{sizeOf}
+use Rattle.lsh.specs.Block.{Chain}
+use Rattle.runs.specs.Limits.{longestBlock}
+use Rattle.record.specs.declared.Record.{Record}
+use Rattle.record.specs.declared.Outcome.{Outcome}
+use Rattle.record.proofs.Sound.{sounds}
+use Rattle.append.specs.Append.{appended, appendAccepted}
+use Rattle.append.proofs.Sound.{appended-chain}
+use Rattle.roll.specs.Checkpoints.{laid}
+use Rattle.roll.proofs.Walked.{way-count, way-slots}
+use Rattle.append_roll.proofs.first_part.Statement.{statement}
+use Rattle.append_roll.proofs.first_part.Tie as tie
+
+words : (z : tie.Start) → length (z .args .r .chain) ≡ 16
+words z = search needs
+
+long : (z : tie.Start) → length (z .args .r .held) ≡ longestBlock
+long z = search needs
+
+next-is : (c : tie.After-accepted) → c .accepted .result .next ≡ appended (c .before .before .before .args .r) (c .before .before .before .args .part .now)
+unfolding appendAccepted
+next-is c = ap (λ (o : Outcome). o .next) (c .accepted .ensures)
+
+pub first-part-spec : {M : Type 1} → statement M
+first-part-spec =
+    tie.close
+    (tie.spec
+    (λ c κs. search needs)
+    (λ c κs.
+    let a = c .before .before .before in
+    let z = a .before .before .before in
+    let r = z .args .r in (
+      sounds r (z .pre .0) .word,
+      subst (λ (o : Record). Chain (sizeOf (r .w)) (o .chain)) (sym (next-is a)) (appended-chain r (z .pre .0) (words z) (long z) (z .args .part .now)),
+      z .pre .2,
+      z .pre .3,
+      omega (arith, way-count _ _ (z .pre .3) (z .pre .2), way-slots _ _ (z .pre .3) (z .pre .2), z .pre .4),
+    ))
+    (λ c. search needs)
+    (λ c.
+    let a = c .before .before .before .before .before .before in
+    let z = a .before .before .before in
+    let l = c .before .before in (
+      ap (λ (o : Record). o .chain) (next-is a),
+      ap (λ (o : Outcome). o .count) (a .accepted .ensures),
+      l .lay .ensures .0 ∙ ap (λ (o : Record). laid (sizeOf (z .args .r .w)) (o .chain) (z .args .roll .now)) (next-is a),
+      l .lay .ensures .1,
+    )))

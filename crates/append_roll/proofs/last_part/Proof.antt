@@ -1,0 +1,82 @@
+-- `append_roll::last_part` meets its contract. Assumes nothing.
+use mathlib.Core.Path.{_≡_, sym, ap, _∙_, subst}
+use mathlib.Core.List.{List, []}
+use Prim.Native.Nat.{ℕ, _+_, _≤_}
+use native.Mathlib.Omega.{arith}
+use lib.ListN.{length, replicate}
+use borrow.Author.Needs.{needs}
+use Rattle.runs.specs.Limits.{longestBlock, limit}
+use Rattle.record.specs.declared.Record.{Record}
+use Rattle.record.specs.declared.Outcome.{Outcome}
+use Rattle.record.specs.Record.{heldOf}
+use Rattle.append.specs.Append.{appended, appendAccepted}
+use Rattle.append_roll.proofs.Parts.{few-blocks}
+use Rattle.append_roll.proofs.last_part.Statement.{statement}
+use Rattle.append_roll.proofs.last_part.Tie as tie
+
+-- no byte is held
+none-held : (s : List ℕ) → s ≡ replicate longestBlock 0 → s ≡ heldOf []
+unfolding heldOf
+none-held s e = e
+
+-- the record at the checkpoint, as the code makes it
+module _ (c : tie.After-zero-bytes) where
+  abbrev at-start : tie.Start
+  at-start = c .before .before .before
+
+  abbrev order : Record
+  order =
+      record {
+        w = at-start .args .r .w;
+        n = at-start .args .r .n;
+        total = at-start .args .r .total + at-start .args .at;
+        chain = at-start .args .p .chain;
+        held = c .zero-bytes .result;
+      }
+
+  order-is : order
+      ≡ record { w = at-start .args .r .w; n = at-start .args .r .n; total = at-start .args .r .total + at-start .args .at; chain = at-start .args .p .chain; held = heldOf [] }
+  order-is = λ i. record {
+    w = at-start .args .r .w;
+    n = at-start .args .r .n;
+    total = at-start .args .r .total + at-start .args .at;
+    chain = at-start .args .p .chain;
+    held = none-held (c .zero-bytes .result) (c .zero-bytes .ensures) i;
+  }
+
+add-total : tie.Need-add-t11
+unfolding limit
+add-total c = record { fits = omega (arith, c .before .before .before .before .pre .0) }
+
+add-count : tie.Need-add-t10
+unfolding limit
+add-count c =
+    let a = c .before .before .before in
+    let y = a .before .before in
+    let z = at-start y in
+    record {
+      fits =
+          omega (
+            arith,
+            z .pre .0,
+            z .pre .1,
+            few-blocks (order y) (z .args .part .now),
+            ap (λ (o : Outcome). o .count) (a .accepted .ensures),
+          );
+    }
+
+pub last-part-spec : {M : Type 1} → statement M
+unfolding appendAccepted
+last-part-spec =
+    tie.close
+    (tie.spec
+    (λ c κs. search needs)
+    add-total
+    (λ c κs. (at-start (c .before) .pre .2 (order (c .before)) (order-is (c .before)), at-start (c .before) .pre .0))
+    add-count
+    (λ c other is.
+    let a = c .before .before .before in
+    let y = a .before .before in
+    let z = at-start y in
+    ap (λ (o : Outcome). record { number = 0; count = z .args .p .count + (o .count); next = o .next })
+    (a .accepted .ensures ∙ ap (λ (r : Record). appendAccepted r (z .args .part .now)) (order-is y ∙ sym is))))
