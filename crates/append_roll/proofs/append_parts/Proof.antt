@@ -188,7 +188,7 @@ last-part-requires c κs =
         pass z .within,
       ),
       λ order made.
-      subst (λ (o : Record). sound o ≡ true) (sym (there l order made))
+          subst (λ (o : Record). sound o ≡ true) (sym (there l order made))
           (so-far-sound (R z) (P z) (pass z .taken) (words z) (long z) (S z) (pass z) (E l) (p .stage .upTo)),
     )
 
