@@ -2,8 +2,8 @@
 -- Assumes nothing.
 use mathlib.Core.Path.{_≡_, refl, sym, ap, ap₂, _∙_, subst}
 use mathlib.Core.Bool.{Bool, true, false, not, cond}
-use mathlib.Core.List.{List, [], _∷_, _++_, append-assoc}
-use Prim.Native.Nat.{ℕ, zero, suc, _+_, _-_, _*_, _/_, _%_, _≤_, _<_, zero-le}
+use mathlib.Core.List.{List, [], _++_, append-assoc}
+use Prim.Native.Nat.{ℕ, suc, _+_, _-_, _*_, _/_, _%_, _≤_, _<_, zero-le}
 use native.Mathlib.Nat.{add-zero, zero-add, add-assoc, suc-mul, mul-assoc, mul-mod-left, mul-div-cancel, mul-add-div-right, add-mul-div-right, div-add-mod', div-le-self, le-div-iff-mul-le}
 use native.Mathlib.Numerals.{add-one}
 use native.Mathlib.Omega.{arith}
@@ -11,12 +11,12 @@ use lib.Dec.{eqb, ltb}
 use lib.ListN.{length, take, drop, length-append, length-drop, take-append-drop}
 use lib.Seq.{length-take-le, take-add, take-all, take-length}
 use borrow.Author.Tests.{eq-eqb, ne-eqb, ltb-false}
-use Rattle.lsh.specs.WordSize.{WordSize, isWordSize, sizeOf, blockBytes}
+use Rattle.lsh.specs.WordSize.{WordSize, sizeOf, blockBytes}
 use Rattle.lsh.specs.Block.{Chain, forwards}
 use Rattle.lsh.specs.Padding.{firstBlocks, blocksOf, restOf}
 use Rattle.lsh.proofs.Figures.{block-some}
 use Rattle.lsh.proofs.Bytes.{octets}
-use Rattle.lsh.proofs.Padding.{firstBlocks-front}
+use Rattle.lsh.proofs.Padding.{firstBlocks-front, length-rest, rest-none}
 use Rattle.runs.specs.Limits.{longestBlock, limit}
 use Rattle.record.specs.declared.Record.{Record}
 use Rattle.record.specs.declared.Outcome.{Outcome}
@@ -165,15 +165,12 @@ module _ (r : Record) (piece : List ℕ) where
     module _ (at : ℕ) (le : at ≤ length piece) (k : ℕ) (place : r .total + at ≡ k * Q) where
       none-held : restOf Z (heldBytes r ++ take at piece) ≡ []
       none-held =
-          no-bytes (restOf Z (heldBytes r ++ take at piece))
-          (sym (rest-length r long (take at piece))
+          rest-none Z (block-some (r .w)) (heldBytes r ++ take at piece)
+          (sym (length-rest Z (block-some (r .w)) (heldBytes r ++ take at piece))
+          ∙ sym (rest-length r long (take at piece))
           ∙ ap (λ (n : ℕ). (r .total + n) % B) (length-take-le at piece le)
           ∙ ap (λ (n : ℕ). n % B) (place ∙ sym (mul-assoc k spacing B))
           ∙ mul-mod-left (k * spacing) B)
-        where
-          no-bytes : (l : List ℕ) → length l ≡ 0 → l ≡ []
-          no-bytes [] e = refl
-          no-bytes (x ∷ l) e = absurd (omega arith)
 
       pub order-there : (chain : List ℕ) → chain ≡ so-far at .chain
           → _≡_ {A = Record} (record { w = r .w; n = r .n; total = r .total + at; chain = chain; held = heldOf [] }) (so-far at)

@@ -1,12 +1,11 @@
 -- What a roll shows after an Append, for every record and roll that it takes: the chains that it showed, and behind them those of the checkpoints due.
 -- A slot that is not linked then keeps its bytes.
 -- Assumes nothing.
-use mathlib.Core.Path.{_≡_, refl, sym, ap, ap₂, _∙_}
-use mathlib.Core.Bool.{true, false}
+use mathlib.Core.Path.{_≡_, sym, ap, _∙_}
+use mathlib.Core.Bool.{false}
 use mathlib.Core.List.{List, [], _∷_, _++_, append-assoc, append-nil}
 use Prim.Native.Nat.{ℕ, zero, suc, _+_, _-_, _≤_, _<_}
 use native.Mathlib.Omega.{arith}
-use lib.Dec.{eqb}
 use lib.ListN.{length}
 use borrow.Author.Tests.{eq-eqb, ne-eqb}
 use native.Mathlib.Decide.{ℕ-discrete}
@@ -19,7 +18,7 @@ use Rattle.record.specs.declared.Record.{Record}
 use Rattle.record.proofs.Sound.{Sound, sounds, chain-is}
 use Rattle.roll.specs.Slots.{slotAt}
 use Rattle.roll.specs.Members.{member}
-use Rattle.roll.specs.Roll.{links, shown, isRoll, checkpoints}
+use Rattle.roll.specs.Roll.{links, shown, checkpoints}
 use Rattle.roll.proofs.Form.{roll-of}
 use Rattle.roll.proofs.Shown.{Laid, laid-all}
 use Rattle.append_roll.specs.AppendRoll.{due, appendRollAnswer, checkpointChain, appendedRoll}

@@ -1,7 +1,7 @@
 -- Tests that antt computes over a whole table, and what each says of every entry.
 -- Assumes nothing.
 use mathlib.Core.Path.{_≡_, refl, sym, subst}
-use mathlib.Core.Bool.{Bool, true, false, _&&_, false≢true}
+use mathlib.Core.Bool.{Bool, true, false, _&&_, _||_, false≢true}
 use mathlib.Core.List.{List, [], _∷_}
 use Prim.Native.Nat.{ℕ, zero, suc, _≤_, _<_, zero-le}
 use native.Mathlib.Nat.{not-suc-le-zero}
@@ -17,6 +17,15 @@ and-true false q e = absurd (false≢true e)
 pub and-false : (p : Bool) → p && false ≡ false
 and-false true = refl
 and-false false = refl
+
+pub or-false : (p q : Bool) → p || q ≡ false → (p ≡ false) × (q ≡ false)
+or-false true q e = absurd (false≢true (sym e))
+or-false false q e = (refl, e)
+
+-- a test that does not pass
+pub is-false : (p : Bool) → (p ≡ true → ⊥) → p ≡ false
+is-false true h = absurd (h refl)
+is-false false h = refl
 
 pub and-left : (a b : Bool) → T (a && b) → T a
 and-left true b t = tt

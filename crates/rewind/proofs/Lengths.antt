@@ -1,17 +1,14 @@
 -- What the tests of the lengths of a Rewind say, where blocks have b bytes.
 -- Assumes nothing.
-use mathlib.Core.Path.{_≡_, refl, ap, _∙_}
-use mathlib.Core.Bool.{Bool, true, false, not, _||_}
+use mathlib.Core.Path.{_≡_, ap, _∙_}
+use mathlib.Core.Bool.{false, not}
 use Prim.Native.Nat.{ℕ, _+_, _-_, _*_, _/_, _%_, _≤_, _<_}
 use native.Mathlib.Nat.{div-add-mod', mul-add-mod-self-right}
 use native.Mathlib.Omega.{arith}
 use lib.Dec.{eqb, ltb, leb}
 use borrow.Author.Tests.{eqb-true, ltb-false, leb-false, not-false}
+use Rattle.lsh.proofs.Tests.{or-false}
 use Rattle.rewind.specs.Rewind.{startsOffBlock, keepsTooMuch}
-
-or-false : (p q : Bool) → p || q ≡ false → (p ≡ false) × (q ≡ false)
-or-false true q e = (e, cc)
-or-false false q e = (refl, e)
 
 -- size bytes that begin with a block
 pub record OnBlock (b total size : ℕ) : Type 0 where

@@ -1,15 +1,14 @@
 -- What the tests of a roll say, and that a way that ends in it passes them.
 -- Assumes nothing.
-use mathlib.Core.Path.{_≡_, refl, sym, ap, _∙_}
-use mathlib.Core.Bool.{Bool, true, false, not, _&&_, false≢true}
-use mathlib.Core.List.{List, [], _∷_, map}
-use Prim.Native.Nat.{ℕ, zero, suc, _+_, _-_, _*_, _/_, _≤_, _<_}
+use mathlib.Core.Path.{_≡_, refl, ap, _∙_}
+use mathlib.Core.Bool.{true, false, not, _&&_, false≢true}
+use mathlib.Core.List.{List, [], map}
+use Prim.Native.Nat.{ℕ, suc, _+_, _-_, _*_, _/_, _≤_, _<_}
 use native.Mathlib.Nat.{mul-div-cancel}
 use native.Mathlib.Omega.{arith}
 use lib.Dec.{eqb, leb}
-use lib.ListN.{length, replicate, length-replicate}
+use lib.ListN.{length, length-replicate}
 use borrow.Author.Tests.{eqb-true, leb-true, not-true, le-leb, eq-eqb}
-use Rattle.lsh.specs.Tabulate.{at}
 use Rattle.lsh.specs.WordSize.{WordSize, sizeOf}
 use Rattle.lsh.specs.Bytes.{wordAt}
 use Rattle.lsh.proofs.Tests.{and-true}

@@ -2,7 +2,7 @@
 -- shorter than k lacks one, which the free choice finds.
 -- Assumes nothing.
 use mathlib.Core.Path.{_≡_, refl, sym, ap, _∙_}
-use mathlib.Core.Bool.{Bool, true, false, cond, _&&_, _||_, false≢true}
+use mathlib.Core.Bool.{Bool, true, false, cond, _||_, false≢true}
 use mathlib.Core.Logic.{_⊎_, inl, inr, ⊎-elim}
 use mathlib.Core.List.{List, [], _∷_, _++_}
 use Prim.Native.Nat.{ℕ, zero, suc, _+_, _≤_, _<_}
@@ -12,22 +12,14 @@ use lib.Dec.{eqb, leb}
 use lib.ListN.{length, take}
 use borrow.Author.Tests.{eqb-true, eq-eqb, ne-eqb, leb-true, le-leb}
 use Rattle.lsh.specs.Tabulate.{at}
-use Rattle.lsh.proofs.Tests.{and-true}
+use Rattle.lsh.proofs.Tests.{and-true, or-false, is-false}
 use Rattle.roll.specs.Members.{member, repeats, allUpTo}
-use Rattle.roll.specs.FreeSlot.{firstFree, freeSlot, Unlinked, FreeChoice}
+use Rattle.roll.specs.FreeSlot.{firstFree, freeSlot, FreeChoice}
 
 -- a test of either of two
-pub or-false : (p q : Bool) → p || q ≡ false → (p ≡ false) × (q ≡ false)
-or-false true q e = absurd (false≢true (sym e))
-or-false false q e = (refl, e)
-
 or-true : (p : Bool) → p || true ≡ true
 or-true true = refl
 or-true false = refl
-
-or-none : (p : Bool) → p || false ≡ p
-or-none true = refl
-or-none false = refl
 
 or-either : (p q : Bool) → p || q ≡ true → (p ≡ true) ⊎ (q ≡ true)
 or-either true q e = inl refl
@@ -77,11 +69,7 @@ pub repeats-parts : (x : ℕ) (l : List ℕ) → repeats (x ∷ l) ≡ false →
 repeats-parts x l e = or-false (member x l) (repeats l) e
 
 member-take-false : (x m : ℕ) (l : List ℕ) → member x l ≡ false → member x (take m l) ≡ false
-member-take-false x m l e = go (member x (take m l)) refl
-  where
-    go : (b : Bool) → member x (take m l) ≡ b → member x (take m l) ≡ false
-    go true h = absurd (false≢true (sym e ∙ member-take x m l h))
-    go false h = h
+member-take-false x m l e = is-false (member x (take m l)) (λ h. false≢true (sym e ∙ member-take x m l h))
 
 pub repeats-take : (m : ℕ) (l : List ℕ) → repeats l ≡ false → repeats (take m l) ≡ false
 repeats-take zero l e = refl

@@ -1,10 +1,10 @@
 -- What a roll shows after a checkpoint was laid, and after links were taken off. Of the slot taken only what holds of a free choice is used.
 -- Assumes nothing.
 use mathlib.Core.Path.{_≡_, refl, sym, ap, ap₂, _∙_, subst}
-use mathlib.Core.Bool.{Bool, true, false, cond, false≢true}
+use mathlib.Core.Bool.{Bool, true, false, cond}
 use mathlib.Core.Logic.{⊎-elim}
 use mathlib.Core.List.{List, [], _∷_, _++_, map, append-nil}
-use Prim.Native.Nat.{ℕ, zero, suc, _+_, _≤_, _<_, _^_}
+use Prim.Native.Nat.{ℕ, zero, suc, _+_, _≤_, _<_}
 use native.Mathlib.Nat.{add-zero, le-refl}
 use native.Mathlib.Omega.{arith}
 use lib.Dec.{eqb, ltb}
@@ -14,13 +14,14 @@ use borrow.Author.Tests.{eqb-false, ltb-true, ltb-false}
 use Rattle.lsh.specs.Tabulate.{at}
 use Rattle.lsh.specs.WordSize.{WordSize}
 use Rattle.lsh.specs.Block.{Chain}
+use Rattle.lsh.proofs.Tests.{or-false, is-false}
 use Rattle.lsh.proofs.Bytes.{Octets}
-use Rattle.roll.specs.Slots.{mostSlots, rollBytes, slotCount, isRollLength, slotAt}
+use Rattle.roll.specs.Slots.{slotCount, isRollLength, slotAt}
 use Rattle.roll.specs.Members.{member, repeats}
 use Rattle.roll.specs.Roll.{nextIndex, links, chainIn, shown, isRoll}
-use Rattle.roll.specs.FreeSlot.{freeSlot, Unlinked, FreeChoice}
+use Rattle.roll.specs.FreeSlot.{Unlinked, FreeChoice}
 use Rattle.roll.specs.Checkpoints.{withIndex, withSlot, leadTo, taken, laid, laidAfter, unlinked}
-use Rattle.roll.proofs.Members.{or-false, apart, member-here, member-there, member-cases, member-at, member-take, member-snoc, repeats-take, repeats-snoc, free-choice}
+use Rattle.roll.proofs.Members.{apart, member-here, member-there, member-cases, member-at, member-take, member-snoc, repeats-take, repeats-snoc, free-choice}
 use Rattle.roll.proofs.Ways.{Leads, relinked}
 use Rattle.roll.proofs.Writes.{index-size, next-is, next-other, chain-kept, slot-size, slot-next, slot-next-other, slot-chain, slot-chain-other, slot-kept, slot-kept-other}
 use Rattle.roll.proofs.Form.{Sized, sized, Linked, linked, links-are, is-roll}
@@ -63,11 +64,7 @@ module _ (z : WordSize) (ok : Octets z) (s : List ℕ) (is : isRoll z s ≡ true
   sizes = sized z s (have .right)
 
   head-apart : member 0 L ≡ false
-  head-apart = go (member 0 L) refl
-    where
-      go : (b : Bool) → member 0 L ≡ b → member 0 L ≡ false
-      go true e = absurd (omega (arith, have .within 0 e .0))
-      go false e = e
+  head-apart = is-false (member 0 L) (λ e. omega (arith, have .within 0 e .0))
 
   from-head : repeats (0 ∷ L) ≡ false
   from-head = rw head-apart (have .distinct)

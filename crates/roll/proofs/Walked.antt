@@ -1,11 +1,10 @@
 -- The walk from the head: what is known after count links, and what is known at its end. L are the links that the definition meets.
 -- Assumes nothing.
-use mathlib.Core.Path.{_≡_, refl, sym, ap, ap₂, _∙_, subst}
-use mathlib.Core.Bool.{Bool, true, false, not, cond, _&&_, _||_, false≢true}
+use mathlib.Core.Path.{_≡_, refl, sym, ap, ap₂, _∙_}
+use mathlib.Core.Bool.{Bool, true, false, cond, _||_, false≢true}
 use mathlib.Core.Logic.{⊎-elim}
 use mathlib.Core.List.{List, [], _∷_, _++_}
 use Prim.Native.Nat.{ℕ, zero, suc, _+_, _≤_, _<_, zero-le}
-use native.Mathlib.Nat.{le-refl}
 use native.Mathlib.Numerals.{add-one}
 use native.Mathlib.Decide.{ℕ-discrete, decLt}
 use native.Mathlib.Omega.{arith}
@@ -13,7 +12,7 @@ use lib.Dec.{eqb}
 use lib.ListN.{length, take, set, replicate, length-append, length-replicate, length-set, getD-replicate, List·getD-eq-default}
 use lib.Seq.{take-suc, take-all, length-take-le, getD-set-same, getD-set-other, getD-at}
 use borrow.Author.Tests.{eq-eqb, ne-eqb}
-use Rattle.lsh.specs.Tabulate.{at, tabulate}
+use Rattle.lsh.specs.Tabulate.{at}
 use Rattle.lsh.specs.WordSize.{WordSize}
 use Rattle.lsh.specs.Block.{Chain}
 use Rattle.lsh.proofs.Bytes.{Octets}
@@ -23,10 +22,10 @@ use Rattle.roll.specs.Slots.{mostSlots, slotCount, isRollLength}
 use Rattle.roll.specs.Members.{member, repeats, allUpTo}
 use Rattle.roll.specs.Roll.{nextIndex, links, isRoll}
 use Rattle.roll.specs.Checkpoints.{leadTo, taken, laid}
-use Rattle.roll.specs.Way.{marked, noWay, wayOf}
+use Rattle.roll.specs.Way.{marked, notARoll, wayOf}
 use Rattle.roll.proofs.Members.{member-at, member-take, member-cases, member-snoc, repeats-snoc, repeats-again, distinct-few, all-up-to}
 use Rattle.roll.proofs.Ways.{met-first, met-next}
-use Rattle.roll.proofs.Form.{Sized, sized, Linked, linked, links-some}
+use Rattle.roll.proofs.Form.{sized, Linked, linked, links-some}
 use Rattle.roll.proofs.Shown.{taken-within, laid-size, laid-links, laid-roll}
 
 -- the marks of a list
@@ -99,11 +98,11 @@ module _ (z : WordSize) (s : List ℕ) where
         within = λ x h. absurd (false≢true h);
       }
 
-  pub not-roll : (Linked z s → ⊥) → noWay ≡ wayOf z s
+  pub not-roll : (Linked z s → ⊥) → notARoll ≡ wayOf z s
   unfolding wayOf
   not-roll never = go (isRoll z s) refl
     where
-      go : (b : Bool) → isRoll z s ≡ b → noWay ≡ wayOf z s
+      go : (b : Bool) → isRoll z s ≡ b → notARoll ≡ wayOf z s
       go true e = absurd (never (linked z s e))
       go false e = rw e
 
@@ -119,11 +118,11 @@ module _ (z : WordSize) (s : List ℕ) where
     is-link ne = ap (λ (x : ℕ). member x L) (w .here) ∙ member-at L count (some-left ne)
 
     -- an index beyond the slots
-    pub walked-beyond : (i ≡ 0 → ⊥) → k < i → noWay ≡ wayOf z s
+    pub walked-beyond : (i ≡ 0 → ⊥) → k < i → notARoll ≡ wayOf z s
     walked-beyond ne beyond = not-roll (λ h. omega (arith, h .within i (is-link ne) .1))
 
     -- a slot met twice
-    pub walked-twice : (i ≡ 0 → ⊥) → i ≤ k → (at marks i ≡ 0 → ⊥) → noWay ≡ wayOf z s
+    pub walked-twice : (i ≡ 0 → ⊥) → i ≤ k → (at marks i ≡ 0 → ⊥) → notARoll ≡ wayOf z s
     walked-twice ne le set-is =
         let in-marks : i ≤ mostSlots = omega (arith, sized z s right .most) in
         let again : member i (take count L) ≡ true =
@@ -254,7 +253,7 @@ module _ (z : WordSize) (ok : Octets z) (s : List ℕ) (is : isRoll z s ≡ true
 -- what is known of any buffer: whether it is a roll, and how many links a roll has
 module _ (z : WordSize) (s : List ℕ) {y : Way} (known : y ≡ wayOf z s) where
   pub way-form : y .form ≡ isRoll z s
-  unfolding wayOf noWay
+  unfolding wayOf notARoll
   way-form = ap (λ (x : Way). x .form) known ∙ go (isRoll z s)
     where
       go : (b : Bool) → cond b (record {
@@ -263,7 +262,7 @@ module _ (z : WordSize) (s : List ℕ) {y : Way} (known : y ≡ wayOf z s) where
         count = length (links z s);
         last = leadTo z s (length (links z s));
         marks = marked (links z s);
-      }) noWay .form ≡ b
+      }) notARoll .form ≡ b
       go true = refl
       go false = refl
 

@@ -17,8 +17,8 @@ use Rattle.roll.specs.Checkpoints.{leadTo}
 unfoldable pub marked : List ℕ → List ℕ
 marked l = tabulate (mostSlots + 1) (λ i. cond (member i l) 1 0)
 
-unfoldable pub noWay : Way
-noWay = record { form = false; slots = 0; count = 0; last = 0; marks = replicate (mostSlots + 1) 0 }
+unfoldable pub notARoll : Way
+notARoll = record { form = false; slots = 0; count = 0; last = 0; marks = replicate (mostSlots + 1) 0 }
 
 unfoldable pub wayOf : WordSize → List ℕ → Way
 wayOf z s =
@@ -30,4 +30,4 @@ wayOf z s =
       last = leadTo z s (length (links z s));
       marks = marked (links z s);
     })
-    noWay
+    notARoll

@@ -11,7 +11,7 @@ ghost use Rattle.roll.specs.Slots.{indexBytes, mostSlots, slotBytes, slo
 ghost use Rattle.roll.specs.Roll.{nextIndex, links, isRoll, checkpoints, isRollOf};
 ghost use Rattle.roll.specs.FreeSlot.{freeSlot};
 ghost use Rattle.roll.specs.Checkpoints.{withIndex, withSlot, leadTo, laid, unlinked};
-ghost use Rattle.roll.specs.Way.{marked, noWay, wayOf};
+ghost use Rattle.roll.specs.Way.{marked, notARoll, wayOf};
 use record::Record;
 
 // The most slots of a roll.
@@ -41,7 +41,7 @@ pub fn walk(w: u64, roll: &[u8]) -> Way
     ensures { λ y. ⌜ y ≡ wayOf (sizeOf w) (now (roll .entry)) ⌝ }
 {
     if !is_roll_length(w, roll.len()) {
-        return no_way();
+        return not_a_roll();
     }
     walk_links(w, slot_count(w, roll.len()), roll)
 }
@@ -116,8 +116,8 @@ fn is_roll_length(w: u64, size: usize) -> bool
     size == INDEX + k * slot_bytes(w)
 }
 
-fn no_way() -> Way
-    ensures { λ y. ⌜ y ≡ noWay ⌝ }
+fn not_a_roll() -> Way
+    ensures { λ y. ⌜ y ≡ notARoll ⌝ }
 {
     let marks = no_marks();
     Way {
@@ -146,10 +146,10 @@ fn walk_links(w: u64, slots: usize, roll: &[u8]) -> Way
     let mut i = next_index(w, roll, 0);
     while i != 0 {
         if slots < i {
-            return no_way();
+            return not_a_roll();
         }
         if marks[i] != 0 {
-            return no_way();
+            return not_a_roll();
         }
         marks[i] = 1;
         count += 1;

@@ -13,11 +13,11 @@ use Rattle.lsh.specs.WordSize.{WordSize, isWordSize, sizeOf, blockBytes}
 use Rattle.lsh.specs.Block.{Chain, forwards}
 use Rattle.lsh.specs.Opening.{opening}
 use Rattle.lsh.specs.Padding.{firstBlocks, blocksOf, restOf}
-use Rattle.lsh.proofs.Figures.{amounts, block-some}
+use Rattle.lsh.proofs.Figures.{amounts}
 use Rattle.lsh.proofs.Blocks.{forwards-chain, forwards-append}
 use Rattle.lsh.proofs.Opening.{opening-chain}
 use Rattle.lsh.proofs.Padding.{firstBlocks-add, firstBlocks-front}
-use Rattle.record.specs.Record.{heldBytes, recordOf}
+use Rattle.record.specs.Record.{recordOf}
 use Rattle.record.proofs.Strings.{held-record}
 use Rattle.roll.specs.Roll.{spacing, checkpoints}
 use Rattle.roll.proofs.Spacing.{step, fewer-blocks}

@@ -23,7 +23,7 @@ use Rattle.roll.proofs.Form.{new-size, new-links, new-shown, new-roll, is-roll-
 use Rattle.tape.specs.Sequence.{Given, answers}
 use Rattle.tape.specs.Tape.{Lent, NoRoll, Roll, wholeBlocks, tooManyBlocks, stays, tapeAppend, tapeRewind}
 use Rattle.tape.specs.Calls.{Call, Append, Rewind, Order, orderCall, tapeCall, HandsBack, forwardCount, backwardCount}
-use Rattle.tape.specs.TapeRoll.{tapeChains, TapeRoll, RollShows, lentRoll}
+use Rattle.tape.specs.TapeRoll.{tapeChains, RollShows, lentRoll}
 use Rattle.tape.specs.Corrected.{newOrder, orderAfter, orderAnswers, tapeAfter, tapeAnswers, Premise, Corrected, byLength, allByLength}
 use Rattle.tape.proofs.Simulation.{Follows, good-after, calls-follow, counts}
 use Rattle.tape.proofs.Steps.{either, Kept, append-kept, append-count, rewind-kept, rewind-count}

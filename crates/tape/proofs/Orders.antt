@@ -2,37 +2,36 @@
 -- an order of which the same holds with the tape that is left.
 -- Assumes nothing.
 use mathlib.Core.Path.{_≡_, refl, sym, ap, ap₂, _∙_, subst}
-use mathlib.Core.Bool.{Bool, true, false, not, cond, _&&_}
+use mathlib.Core.Bool.{Bool, true, false, cond}
 use mathlib.Core.List.{List, [], _∷_, _++_}
-use Prim.Native.Nat.{ℕ, suc, _+_, _-_, _*_, _/_, _≤_, _<_}
+use Prim.Native.Nat.{ℕ, suc, _+_, _-_, _≤_}
 use native.Mathlib.Omega.{arith}
 use lib.Dec.{eqb, ltb}
 use lib.ListN.{length, take, drop, length-append, length-take}
-use borrow.Author.Tests.{eq-eqb, ltb-false}
+use borrow.Author.Tests.{ltb-false}
 use Rattle.lsh.specs.WordSize.{WordSize, isWordSize, sizeOf, blockBytes}
-use Rattle.lsh.specs.Block.{Chain}
 use Rattle.lsh.proofs.Bytes.{Octets, octets}
 use Rattle.runs.specs.Limits.{isDigestLength, limit}
 use Rattle.record.specs.declared.Record.{Record}
 use Rattle.record.specs.declared.Outcome.{Outcome}
-use Rattle.record.specs.Record.{sound, recordOf, refused}
+use Rattle.record.specs.Record.{recordOf, refused}
 use Rattle.append.specs.Append.{appendAccepted, appendCall}
 use Rattle.rewind.specs.Rewind.{startsOffBlock, keepsTooMuch, rewindCall}
-use Rattle.roll.specs.Slots.{rollBytes, slotCount}
-use Rattle.roll.specs.Roll.{links, shown, isRoll, spacing, checkpoints, isRollOf}
+use Rattle.roll.specs.Slots.{slotCount}
+use Rattle.roll.specs.Roll.{links, shown, isRoll, checkpoints}
 use Rattle.roll.specs.Checkpoints.{laidAfter, unlinked}
 use Rattle.roll.proofs.Form.{slots-are, roll-of, is-roll-of}
 use Rattle.roll.proofs.Shown.{shown-many, unlinked-cut, Cut, Laid, laid-all}
-use Rattle.roll.proofs.Spacing.{step, within, no-fewer}
+use Rattle.roll.proofs.Spacing.{within, no-fewer}
 use Rattle.append_roll.specs.AppendRoll.{due, isFull, appendRollAnswer, appendRollCall, checkpointChain, appendedRoll}
 use Rattle.append_roll.proofs.Parts.{full-is}
 use Rattle.rewind_roll.specs.RewindRoll.{rewindRollCall, rewoundRoll}
-use Rattle.tape.specs.Sequence.{Answer, Given}
+use Rattle.tape.specs.Sequence.{Given}
 use Rattle.tape.specs.Tape.{Lent, NoRoll, Roll, Slots, wholeBlocks, tooManyBlocks, stays, tapeAppend, tapeRewind}
 use Rattle.tape.specs.Calls.{Order, given}
 use Rattle.tape.specs.TapeRoll.{tapeChains, TapeRoll, RollShows}
-use Rattle.tape.proofs.Simulation.{Follows, followed}
-use Rattle.tape.proofs.Steps.{either, answered, Kept, sound-is, append-next, rewind-step}
+use Rattle.tape.proofs.Simulation.{Follows}
+use Rattle.tape.proofs.Steps.{either, Kept, sound-is, append-next, rewind-step}
 use Rattle.tape.proofs.Chains.{chains-length, chains-take, chains-front, chains-cut, chain-appended, appended-chain}
 
 -- an order of the tape

@@ -7,9 +7,9 @@ use native.Mathlib.Omega.{arith}
 use lib.ListN.{length, take, drop, length-drop}
 use lib.Seq.{length-take-le}
 use borrow.Author.Needs.{needs}
-use Rattle.lsh.specs.WordSize.{WordSize, sizeOf}
+use Rattle.lsh.specs.WordSize.{sizeOf}
 use Rattle.lsh.proofs.Figures.{block-some}
-use Rattle.runs.specs.Limits.{longestBlock, limit}
+use Rattle.runs.specs.Limits.{longestBlock}
 use Rattle.runs.proofs.Rest.{from-place}
 use Rattle.record.specs.declared.Record.{Record}
 use Rattle.record.specs.Record.{heldOf, sound}
@@ -19,7 +19,7 @@ use Rattle.roll.specs.Roll.{checkpoints}
 use Rattle.roll.specs.Checkpoints.{laid}
 use Rattle.roll.proofs.Form.{roll-of}
 use Rattle.roll.proofs.Spacing.{step}
-use Rattle.append_roll.proofs.Parts.{Accepted, accepted, goal-of, accepted-roll, due-after, Stage, Parted, so-far-sound, none-reached, first-room, first-parted, first-rest, chain-ok, count-few, next-room, parted-more, parted-roll, parted-end, order-there}
+use Rattle.append_roll.proofs.Parts.{Accepted, accepted, goal-of, accepted-roll, due-after, Parted, so-far-sound, none-reached, first-room, first-parted, first-rest, chain-ok, count-few, next-room, parted-more, parted-roll, parted-end, order-there}
 use Rattle.append_roll.proofs.append_parts.Statement.{statement}
 use Rattle.append_roll.proofs.append_parts.Tie as tie
 

@@ -1,9 +1,6 @@
 -- `append_roll::between_checkpoints` meets its contract. Assumes nothing.
-use mathlib.Core.Path.{ap}
-use Prim.Native.Nat.{ℕ, _*_}
 use native.Mathlib.Omega.{arith}
 use borrow.Author.Needs.{needs}
-use Rattle.roll.specs.Roll.{spacing}
 use Rattle.runs.proofs.Limits.{block-most}
 use Rattle.append_roll.proofs.between_checkpoints.Statement.{statement}
 use Rattle.append_roll.proofs.between_checkpoints.Tie as tie

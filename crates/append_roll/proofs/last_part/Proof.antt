@@ -1,15 +1,15 @@
 -- `append_roll::last_part` meets its contract. Assumes nothing.
-use mathlib.Core.Path.{_≡_, sym, ap, _∙_, subst}
+use mathlib.Core.Path.{_≡_, sym, ap, _∙_}
 use mathlib.Core.List.{List, []}
-use Prim.Native.Nat.{ℕ, _+_, _≤_}
+use Prim.Native.Nat.{ℕ, _+_}
 use native.Mathlib.Omega.{arith}
-use lib.ListN.{length, replicate}
+use lib.ListN.{replicate}
 use borrow.Author.Needs.{needs}
 use Rattle.runs.specs.Limits.{longestBlock, limit}
 use Rattle.record.specs.declared.Record.{Record}
 use Rattle.record.specs.declared.Outcome.{Outcome}
 use Rattle.record.specs.Record.{heldOf}
-use Rattle.append.specs.Append.{appended, appendAccepted}
+use Rattle.append.specs.Append.{appendAccepted}
 use Rattle.append_roll.proofs.Parts.{few-blocks}
 use Rattle.append_roll.proofs.last_part.Statement.{statement}
 use Rattle.append_roll.proofs.last_part.Tie as tie

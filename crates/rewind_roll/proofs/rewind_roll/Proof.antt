@@ -1,5 +1,5 @@
 -- `rewind_roll::rewind_roll` meets its contract, by the answer. Assumes nothing.
-use mathlib.Core.Path.{_≡_, ap, _∙_}
+use mathlib.Core.Path.{ap, _∙_}
 use Prim.Native.Nat.{ℕ}
 use borrow.Author.Needs.{needs}
 use Rattle.lsh.specs.WordSize.{sizeOf}

@@ -1,11 +1,9 @@
 -- `roll::is_roll_length` meets its contract. Assumes nothing.
-use mathlib.Core.Path.{_≡_, sym, ap, _∙_}
-use Prim.Native.Nat.{ℕ, _+_, _*_, _≤_}
+use Prim.Native.Nat.{_*_, _≤_}
 use native.Mathlib.Omega.{arith}
 use borrow.Author.Needs.{needs}
 use borrow.Author.Tests.{le-leb, lt-leb}
-use Rattle.lsh.specs.WordSize.{sizeOf}
-use Rattle.roll.specs.Slots.{indexBytes, mostSlots, slotBytes, rollBytes, isRollLength}
+use Rattle.roll.specs.Slots.{mostSlots, rollBytes, isRollLength}
 use Rattle.roll.proofs.Sizes.{slots-most}
 use Rattle.roll.proofs.is_roll_length.Statement.{statement}
 use Rattle.roll.proofs.is_roll_length.Tie as tie

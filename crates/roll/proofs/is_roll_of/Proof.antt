@@ -1,15 +1,10 @@
 -- `roll::is_roll_of` meets its contract: a way that is none has no form. Assumes nothing.
-use mathlib.Core.Path.{_≡_, refl, sym, ap, ap₂, _∙_}
-use mathlib.Core.Bool.{Bool, true, false, _&&_}
-use mathlib.Core.List.{List}
-use Prim.Native.Nat.{ℕ}
-use lib.Dec.{eqb}
+use mathlib.Core.Path.{_≡_, sym, _∙_}
+use mathlib.Core.Bool.{true}
 use borrow.Author.Needs.{needs}
 use borrow.Author.Tests.{not-true, not-false}
-use Rattle.lsh.specs.WordSize.{WordSize, sizeOf}
-use Rattle.roll.specs.declared.Way.{Way}
-use Rattle.roll.specs.Roll.{links, isRoll, checkpoints, isRollOf}
-use Rattle.roll.specs.Way.{noWay, wayOf}
+use Rattle.lsh.specs.WordSize.{sizeOf}
+use Rattle.roll.specs.Roll.{isRoll, checkpoints, isRollOf}
 use Rattle.roll.proofs.Walked.{way-form, way-count}
 use Rattle.roll.proofs.is_roll_of.Statement.{statement}
 use Rattle.roll.proofs.is_roll_of.Tie as tie

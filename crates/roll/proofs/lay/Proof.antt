@@ -1,6 +1,5 @@
 -- `roll::lay` meets its contract. Assumes nothing.
-use mathlib.Core.Path.{_≡_, sym, ap, ap₂, _∙_, subst}
-use mathlib.Core.Bool.{true}
+use mathlib.Core.Path.{_≡_, sym, ap, _∙_}
 use mathlib.Core.List.{List}
 use Prim.Native.Nat.{ℕ, _≤_, _<_}
 use native.Mathlib.Nat.{le-refl}
@@ -10,11 +9,11 @@ use borrow.Author.Needs.{needs}
 use Rattle.lsh.specs.WordSize.{WordSize, sizeOf}
 use Rattle.lsh.proofs.Bytes.{Octets, octets}
 use Rattle.roll.specs.declared.Way.{Way}
-use Rattle.roll.specs.Slots.{mostSlots, slotCount, isRollLength}
+use Rattle.roll.specs.Slots.{slotCount}
 use Rattle.roll.specs.Roll.{links}
 use Rattle.roll.specs.FreeSlot.{freeSlot}
 use Rattle.roll.specs.Checkpoints.{withIndex, withSlot, leadTo, taken, laid}
-use Rattle.roll.specs.Way.{marked, wayOf}
+use Rattle.roll.specs.Way.{wayOf}
 use Rattle.roll.proofs.Form.{Linked, linked, Sized, sized}
 use Rattle.roll.proofs.Shown.{lead-in, taken-within}
 use Rattle.roll.proofs.Writes.{slot-size}

@@ -1,6 +1,5 @@
 -- `roll::next_index` meets its contract. Assumes nothing.
 use mathlib.Core.Path.{ap, _∙_}
-use mathlib.Core.List.{List}
 use Prim.Native.Nat.{ℕ}
 use native.Mathlib.Omega.{arith}
 use Rattle.lsh.specs.WordSize.{sizeOf}

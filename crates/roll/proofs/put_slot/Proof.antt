@@ -9,7 +9,7 @@ use borrow.Author.Needs.{needs}
 use Rattle.lsh.specs.WordSize.{sizeOf, chainBytes}
 use Rattle.lsh.specs.Bytes.{bytesOf}
 use Rattle.lsh.proofs.Bytes.{octets, length-chain}
-use Rattle.roll.specs.Slots.{indexBytes, rollBytes, slotCount, indexPlace, chainPlace}
+use Rattle.roll.specs.Slots.{indexBytes, chainPlace}
 use Rattle.roll.specs.Checkpoints.{withIndex, withSlot}
 use Rattle.roll.proofs.Places.{chain-in}
 use Rattle.roll.proofs.Form.{Sized, sized}

@@ -1,6 +1,5 @@
 -- `roll::unlink` meets its contract. Assumes nothing.
-use mathlib.Core.Path.{_≡_, sym, ap, _∙_, subst}
-use mathlib.Core.List.{List}
+use mathlib.Core.Path.{ap, _∙_}
 use Prim.Native.Nat.{ℕ, _≤_, _<_, zero-le}
 use native.Mathlib.Omega.{arith}
 use lib.ListN.{length}
@@ -8,9 +7,8 @@ use borrow.Author.Needs.{needs}
 use borrow.Author.Tests.{lt-ltb, le-ltb}
 use Rattle.lsh.specs.WordSize.{sizeOf}
 use Rattle.lsh.proofs.Bytes.{octets}
-use Rattle.roll.specs.Slots.{slotCount}
 use Rattle.roll.specs.Roll.{links}
-use Rattle.roll.specs.Checkpoints.{withIndex, leadTo, unlinked}
+use Rattle.roll.specs.Checkpoints.{withIndex, unlinked}
 use Rattle.roll.proofs.Form.{linked}
 use Rattle.roll.proofs.Shown.{lead-in}
 use Rattle.roll.proofs.unlink.Statement.{statement}

@@ -1,5 +1,5 @@
 -- `roll::walk` meets its contract. Assumes nothing.
-use mathlib.Core.Path.{_≡_, sym, _∙_}
+use mathlib.Core.Path.{sym, _∙_}
 use mathlib.Core.Bool.{false≢true}
 use borrow.Author.Needs.{needs}
 use borrow.Author.Tests.{not-true, not-false}
@@ -14,7 +14,7 @@ walk-spec =
     (λ c κs. search needs)
     (λ c κs. search needs)
     (λ c.
-    c .no-way .ensures
+    c .not-a-roll .ensures
     ∙ not-roll _ _ (λ h. false≢true (sym (sym (c .before .before .is-roll-length .ensures) ∙ not-true _ (c .before .if1 .taken)) ∙ h .right)))
     (λ c κs. search needs)
     (λ c κs. (sym (c .before .before .is-roll-length .ensures) ∙ not-false _ (c .before .if1 .left), c .slot-count .ensures))

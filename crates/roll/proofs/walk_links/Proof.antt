@@ -4,7 +4,7 @@ use Prim.Native.Nat.{_-_, _≤_, _<_, zero-le}
 use native.Mathlib.Omega.{arith}
 use lib.ListN.{length}
 use Rattle.lsh.specs.WordSize.{sizeOf}
-use Rattle.roll.specs.Slots.{mostSlots, slotCount}
+use Rattle.roll.specs.Slots.{slotCount}
 use Rattle.roll.proofs.Form.{Sized, sized}
 use Rattle.roll.proofs.Walked.{Walked, walked-none, walked-beyond, walked-twice, walked-few, walked-more, walked-all}
 use Rattle.roll.proofs.walk_links.Statement.{statement}
@@ -47,7 +47,7 @@ walk-links-spec =
     (λ c.
     let l = c .before .before .before in
     let z = l .before .before .before .before in
-    c .no-way .ensures ∙ walked-beyond _ _ (z .pre .0) (l .loop .inv) (c .before .before .loop-test .taken) (omega (arith, z .pre .1)))
+    c .not-a-roll .ensures ∙ walked-beyond _ _ (z .pre .0) (l .loop .inv) (c .before .before .loop-test .taken) (omega (arith, z .pre .1)))
     (λ c.
     let z = c .before .before .before .before .before .before in
     omega (arith, z .pre .1, sizes z .most))
@@ -55,7 +55,7 @@ walk-links-spec =
     (λ c.
     let l = c .before .before .before .before in
     let z = l .before .before .before .before in
-    c .no-way2 .ensures
+    c .not-a-roll2 .ensures
     ∙ walked-twice _ _ (z .pre .0) (l .loop .inv) (c .before .before .before .loop-test .taken) (omega (arith, z .pre .1)) (c .before .if2 .taken))
     (λ c. omega (arith, within c, sizes (at-start c) .most))
     (λ c. omega (arith, few c, sizes (at-start c) .most))
