@@ -15,11 +15,15 @@ stringBytes = 131072
 abbrev pub rollBytes : ℕ
 rollBytes = 65536
 
+-- LENT_BYTES: room for an output, and behind it for the roll
+abbrev pub lentBytes : ℕ
+lentBytes = stringBytes + rollBytes
+
 -- DIGITS: the most digits of a number of 64 bits. No buffer of the program's own has this length, so what is proved is that DIGITS are enough
 abbrev pub digits : ℕ
 digits = 20
 
 -- ROOM: the bytes of the line buffer. What a line prints stands behind the line's name: four numbers at most, and then the digits of BYTES bytes at
--- most, which a roll has fewer of, or those of a chain and of the held bytes
+-- most, or those of a chain and of the held bytes
 abbrev pub roomBytes : ℕ
 roomBytes = 2 * lineBytes + 1024

@@ -20,28 +20,21 @@ const TOO_LONG: usize = 1001;
 const NOT_A_CALL: usize = 1002;
 
 // Makes the call that a line of n bytes says.
-pub fn answer(
-    n: usize,
-    buffer: &[u8],
-    k: Kept,
-    given: &mut [u8],
-    output: &mut [u8],
-    roll: &mut [u8],
-) -> Reply {
+pub fn answer(n: usize, buffer: &[u8], k: Kept, given: &mut [u8], lent: &mut [u8]) -> Reply {
     let m = words::least(n, buffer.len());
     let line = &buffer[0..m];
-    let w = read(line, given, output);
-    make(kind(n, line, w), w, k, given, output, roll)
+    let w = read(line, given, lent);
+    make(kind(n, line, w), w, k, given, lent)
 }
 
 // The words of a line. The table has the name and the form of each kind of line; the kinds are counted in its order.
-fn read(line: &[u8], given: &mut [u8], output: &mut [u8]) -> Words {
+fn read(line: &[u8], given: &mut [u8], lent: &mut [u8]) -> Words {
     let forms =
         b"open nn append b rewind nb close lns record - set nnnbb whole nnblns same bb tally b forward nob backward nob \
           roll r rollset c showroll - appendroll b rewindroll nb";
     let place = script::place(forms, script::word(line, 0));
     let form = script::word(forms, std::num::wrapping_add_usize(place, 1));
-    words::read(place, line, form, given, output)
+    words::read(place, line, form, given, lent)
 }
 
 // The kind of a line, by the place of its name in the table, where every second word is a name, and by whether its words are those of the form.
@@ -66,31 +59,19 @@ fn is_silent(line: &[u8]) -> bool {
     line[0] == b'#'
 }
 
-// Makes the call of a kind, which gets as many bytes of the buffers as the output and the roll have.
-fn make(kind: usize, w: Words, k: Kept, given: &[u8], output: &mut [u8], roll: &mut [u8]) -> Reply {
+// Makes the call of a kind, which is lent its part of the buffer: the output, or the roll.
+fn make(kind: usize, w: Words, k: Kept, given: &[u8], lent: &mut [u8]) -> Reply {
     let v = w.values;
-    let size = words::fitting(w.size, output);
-    let length = words::fitting(rolls::size(kind, v, k.roll), roll);
-    let c = call(
-        kind,
-        v,
-        k.record,
-        given,
-        &mut output[0..size],
-        &mut roll[0..length],
-    );
-    reply::with_roll(length as u64, c)
+    let length = rolls::size(kind, v, k.roll);
+    let p = rolls::lent_part(kind, w.size, length, lent);
+    let from = p.from;
+    let to = p.to;
+    let c = call(kind, v, k.record, given, &mut lent[from..to]);
+    reply::with_roll(length, c)
 }
 
 // Makes the call of a kind, with the values of its words.
-fn call(
-    kind: usize,
-    v: [u64; WORDS],
-    r: Record,
-    given: &[u8],
-    output: &mut [u8],
-    roll: &mut [u8],
-) -> Reply {
+fn call(kind: usize, v: [u64; WORDS], r: Record, given: &[u8], output: &mut [u8]) -> Reply {
     match kind {
         0 => order::open(v),
         1 => order::append(v, r, given),
@@ -103,7 +84,7 @@ fn call(
         8 => receipts::tally(v, r, given),
         9 => blocks::forward(v, r, given, output),
         10 => blocks::backward(v, r, given, output),
-        11..=15 => rolls::call(kind, v, r, given, roll),
+        11..=15 => rolls::call(kind, v, r, given, output),
         SILENT => reply::plain(reply::NOTHING, r),
         TOO_LONG => reply::plain(reply::TOO_LONG, r),
         _ => reply::plain(reply::NOT_A_CALL, r),

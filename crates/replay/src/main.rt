@@ -11,7 +11,7 @@ mod words;
 ghost use mathlib.Core.Path.{_≡_};
 ghost use Prim.Native.Nat.{_≤_};
 ghost use lib.ListN.{length};
-ghost use Rattle.replay.specs.Sizes.{stringBytes, rollBytes, roomBytes};
+ghost use Rattle.replay.specs.Sizes.{stringBytes, lentBytes, roomBytes};
 use input::Place;
 use record::Record;
 
@@ -23,6 +23,10 @@ const BYTES: usize = 131072;
 
 // The most bytes of a roll.
 const ROLL: usize = 65536;
+
+// Room for what a call is lent: an output, and behind it the roll, which is kept from line to line. One buffer serves both, since no call is lent both and
+// each buffer that is passed on costs.
+const LENT_BYTES: usize = BYTES + ROLL;
 
 // Room for a line, and behind its name for what it prints.
 const ROOM: usize = 2 * LINE + 1024;
@@ -42,9 +46,8 @@ fn main() {
     let mut chunk = io::large_buffer();
     let mut line = line_buffer();
     let mut given = bytes_buffer();
-    let mut output = bytes_buffer();
-    let mut roll = roll_buffer();
-    replay(&mut chunk, &mut line, &mut given, &mut output, &mut roll);
+    let mut lent = lent_buffer();
+    replay(&mut chunk, &mut line, &mut given, &mut lent);
 }
 
 fn line_buffer() -> [u8; ROOM]
@@ -59,22 +62,22 @@ fn bytes_buffer() -> [u8; BYTES]
     [0; BYTES]
 }
 
-fn roll_buffer() -> [u8; ROLL]
-    ensures { λ r. ⌜ rollBytes ≡ length r ⌝ }
+fn lent_buffer() -> [u8; LENT_BYTES]
+    ensures { λ r. ⌜ lentBytes ≡ length r ⌝ }
 {
-    [0; ROLL]
+    [0; LENT_BYTES]
 }
 
 // A proved loop has to end, and nothing says that the input does, so the turns are counted down from a number that no run uses up.
-fn replay(chunk: &mut [u8], line: &mut [u8], given: &mut [u8], output: &mut [u8], roll: &mut [u8])
-    requires { ⌜ (roomBytes ≤ length (now line)) × (length (now output) ≤ stringBytes) × (length (now roll) ≤ rollBytes) ⌝ }
+fn replay(chunk: &mut [u8], line: &mut [u8], given: &mut [u8], lent: &mut [u8])
+    requires { ⌜ roomBytes ≤ length (now line) ⌝ }
 {
     let mut k = start();
     let mut p = input::start();
     let mut turns = u64::MAX;
     while turns > 0 && k.on {
         p = input::go_on(p, chunk, line);
-        k = answer(k, p, line, given, output, roll);
+        k = answer(k, p, line, given, lent);
         turns -= 1;
     }
 }
@@ -95,22 +98,15 @@ fn after(r: Record, roll: u64, lines: u64, on: bool) -> Kept {
 }
 
 // Answers the line, if one has ended.
-fn answer(
-    k: Kept,
-    p: Place,
-    line: &mut [u8],
-    given: &mut [u8],
-    output: &mut [u8],
-    roll: &mut [u8],
-) -> Kept
-    requires { ⌜ (roomBytes ≤ length (now line)) × (length (now output) ≤ stringBytes) × (length (now roll) ≤ rollBytes) ⌝ }
+fn answer(k: Kept, p: Place, line: &mut [u8], given: &mut [u8], lent: &mut [u8]) -> Kept
+    requires { ⌜ roomBytes ≤ length (now line) ⌝ }
 {
     if !p.ended {
         return after(k.record, k.roll, k.lines, p.more);
     }
-    let c = calls::answer(p.begun, line, k, given, output, roll);
+    let c = calls::answer(p.begun, line, k, given, lent);
     let next = c.next;
     let number = std::num::wrapping_add_u64(k.lines, 1);
-    let printed = reply::print(p.begun, line, number, c, output, roll);
+    let printed = reply::print(p.begun, line, number, c, lent);
     after(next, c.roll, number, printed & p.more)
 }

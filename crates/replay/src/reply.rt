@@ -3,7 +3,8 @@ ghost use Prim.Native.Nat.{_+_, _*_, _<_, _≤_};
 ghost use lib.ListN.{length};
 ghost use Rattle.runs.specs.Limits.{longestBlock};
 ghost use Rattle.script.specs.Numbers.{wideChain};
-ghost use Rattle.replay.specs.Sizes.{lineBytes, stringBytes, rollBytes, digits, roomBytes};
+ghost use Rattle.replay.specs.Sizes.{lineBytes, digits, roomBytes};
+use crate::BYTES;
 use crate::LINE;
 use crate::words;
 use libc::STDERR_FILENO;
@@ -15,45 +16,45 @@ use script::WIDE_CHAIN;
 // The most digits of a number.
 const DIGITS: usize = 20;
 
-// What comes behind the name of a line and its numbers: nothing, yes, no, the output, the words of the record, or the roll.
+// What comes behind the name of a line and its numbers: nothing, yes, no, a part of what the call was lent, or the words of the record.
 pub const NAME: u32 = 0;
 
 const YES: u32 = 1;
 
 const NO: u32 = 2;
 
-const OUTPUT: u32 = 3;
+const LENT: u32 = 3;
 
 const RECORD: u32 = 4;
 
-const ROLL: u32 = 5;
-
 // A line that prints nothing, and, from TOO_LONG on, those that are no call.
-pub const NOTHING: u32 = 6;
+pub const NOTHING: u32 = 5;
 
-pub const TOO_LONG: u32 = 7;
+pub const TOO_LONG: u32 = 6;
 
-pub const NOT_A_CALL: u32 = 8;
+pub const NOT_A_CALL: u32 = 7;
 
-// The answer to a line: what it prints, with the first count of the numbers and the first size bytes of the output or the roll, and the record that is
+// The answer to a line: what it prints, with the first count of the numbers and a part of the buffer from which calls are lent, and the record that is
 // kept.
 pub struct Reply {
     what: u32,
     count: usize,
     numbers: [u64; 4],
-    size: u64,
+    from: u64,
+    to: u64,
     pub next: Record,
     // How many bytes the roll has after the line.
     pub roll: u64,
 }
 
-fn reply_of(what: u32, count: usize, numbers: [u64; 4], size: u64, r: Record) -> Reply {
+fn reply_of(what: u32, count: usize, numbers: [u64; 4], r: Record) -> Reply {
     let x = numbers;
     Reply {
         what: what,
         count: count,
         numbers: x,
-        size: size,
+        from: 0,
+        to: 0,
         next: r,
         roll: 0,
     }
@@ -66,11 +67,11 @@ pub fn with_roll(size: u64, mut c: Reply) -> Reply {
 }
 
 pub fn plain(what: u32, r: Record) -> Reply {
-    reply_of(what, 0, [0, 0, 0, 0], 0, r)
+    reply_of(what, 0, [0, 0, 0, 0], r)
 }
 
 pub fn numbers(count: usize, numbers: [u64; 4], r: Record) -> Reply {
-    reply_of(NAME, count, numbers, 0, r)
+    reply_of(NAME, count, numbers, r)
 }
 
 pub fn number(number: u32, r: Record) -> Reply {
@@ -87,35 +88,40 @@ pub fn truth(answer: u32, is: bool, r: Record) -> Reply {
         return number(answer, r);
     }
     if is {
-        return reply_of(YES, 1, [0, 0, 0, 0], 0, r);
+        return reply_of(YES, 1, [0, 0, 0, 0], r);
     }
-    reply_of(NO, 1, [0, 0, 0, 0], 0, r)
+    reply_of(NO, 1, [0, 0, 0, 0], r)
 }
 
 // The first size bytes of the output.
 pub fn output(number: u32, size: u64, r: Record) -> Reply {
-    reply_of(OUTPUT, 1, [number as u64, 0, 0, 0], size, r)
+    let mut c = reply_of(LENT, 1, [number as u64, 0, 0, 0], r);
+    c.to = size;
+    c
 }
 
 pub fn record(r: Record) -> Reply {
-    reply_of(RECORD, 3, [r.w, r.n, r.total, 0], 0, r)
+    reply_of(RECORD, 3, [r.w, r.n, r.total, 0], r)
 }
 
-// The first size bytes of the roll.
+// The roll, which has size bytes and stands behind the room for an output.
 pub fn roll(size: u64, r: Record) -> Reply {
-    reply_of(ROLL, 0, [0, 0, 0, 0], size, r)
+    let mut c = reply_of(LENT, 0, [0, 0, 0, 0], r);
+    c.from = BYTES as u64;
+    c.to = std::num::wrapping_add_u64(BYTES as u64, size);
+    c
 }
 
 // Prints what line k prints, which has n bytes and stands in the buffer: behind its name, or behind its number if it is no call. Answers whether that
 // went well.
-pub fn print(n: usize, line: &mut [u8], k: u64, c: Reply, output: &[u8], roll: &[u8]) -> bool
-    requires { ⌜ (roomBytes ≤ length (now line)) × (length (now output) ≤ stringBytes) × (length (now roll) ≤ rollBytes) ⌝ }
+pub fn print(n: usize, line: &mut [u8], k: u64, c: Reply, lent: &[u8]) -> bool
+    requires { ⌜ roomBytes ≤ length (now line) ⌝ }
 {
     if c.what == NOTHING {
         return true;
     }
     let at = put_front(n, line, k, c);
-    let end = put_rest(line, at, c, output, roll);
+    let end = put_rest(line, at, c, lent);
     write(line, end)
 }
 
@@ -178,15 +184,14 @@ fn put_number(line: &mut [u8], from: usize, x: u64) -> usize
 }
 
 // What comes behind that.
-fn put_rest(line: &mut [u8], from: usize, c: Reply, output: &[u8], roll: &[u8]) -> usize
-    requires { ⌜ (roomBytes ≤ length (now line)) × (from ≤ lineBytes + 4 * (1 + digits)) × (length (now output) ≤ stringBytes) × (length (now roll) ≤ rollBytes) ⌝ }
+fn put_rest(line: &mut [u8], from: usize, c: Reply, lent: &[u8]) -> usize
+    requires { ⌜ (roomBytes ≤ length (now line)) × (from ≤ lineBytes + 4 * (1 + digits)) ⌝ }
     ensures { λ r. ⌜ r < roomBytes ⌝ }
 {
     let what = c.what;
     match what {
-        OUTPUT => put_output(line, from, c.size, output),
+        LENT => put_part(line, from, words::part(lent, c.from, c.to)),
         RECORD => put_record(line, from, c.next),
-        ROLL => put_output(line, from, c.size, roll),
         _ => put_words(line, from, what),
     }
 }
@@ -204,13 +209,13 @@ fn put_words(line: &mut [u8], from: usize, what: u32) -> usize
     }
 }
 
-// The first size bytes of the output, or of the roll.
-fn put_output(line: &mut [u8], from: usize, size: u64, output: &[u8]) -> usize
-    requires { ⌜ (roomBytes ≤ length (now line)) × (from ≤ lineBytes + 4 * (1 + digits)) × (length (now output) ≤ stringBytes) ⌝ }
+// A part of what calls are lent: an output or the roll, at most as many bytes as a line can say.
+fn put_part(line: &mut [u8], from: usize, part: &[u8]) -> usize
+    requires { ⌜ (roomBytes ≤ length (now line)) × (from ≤ lineBytes + 4 * (1 + digits)) ⌝ }
     ensures { λ r. ⌜ r < roomBytes ⌝ }
 {
-    let n = words::fitting(size, output);
-    put_bytes(line, from, &output[0..n])
+    let n = words::least(part.len(), BYTES);
+    put_bytes(line, from, &part[0..n])
 }
 
 // A space and bytes.

@@ -1,9 +1,47 @@
 // The lines on the roll. Their kinds are numbers of the table of forms in calls.rt.
+ghost use Prim.Native.Nat.{_≤_};
+ghost use lib.ListN.{length};
+use crate::BYTES;
 use crate::reply;
 use crate::reply::Reply;
 use crate::words;
 use crate::words::WORDS;
 use record::Record;
+
+// A part of the buffer from which calls are lent.
+pub struct Part {
+    pub from: usize,
+    pub to: usize,
+}
+
+// What a call of a kind is lent: the roll, which stands behind the room for an output, or an output of a size; nothing where the buffer has no such part.
+pub fn lent_part(kind: usize, size: u64, roll: u64, lent: &[u8]) -> Part
+    ensures { λ p. ⌜ (p .from ≤ p .to) × (p .to ≤ length (now (lent .entry))) ⌝ }
+{
+    if (11 <= kind) & (kind <= 15) {
+        return within(
+            BYTES as u64,
+            std::num::wrapping_add_u64(BYTES as u64, roll),
+            lent,
+        );
+    }
+    within(0, size, lent)
+}
+
+fn within(from: u64, to: u64, lent: &[u8]) -> Part
+    ensures { λ p. ⌜ (p .from ≤ p .to) × (p .to ≤ length (now (lent .entry))) ⌝ }
+{
+    if to < from {
+        return Part { from: 0, to: 0 };
+    }
+    if (lent.len() as u64) < to {
+        return Part { from: 0, to: 0 };
+    }
+    Part {
+        from: from as usize,
+        to: to as usize,
+    }
+}
 
 // How many bytes the roll has at a call of a kind and after it. roll and rollset say how many; the other lines leave as many as there were before.
 pub fn size(kind: usize, v: [u64; WORDS], before: u64) -> u64 {
