@@ -27,13 +27,13 @@ use Rattle.append.proofs.Held.{total-is, rest-length, held-after}
 use Rattle.append.proofs.Joins.{append-joins}
 use Rattle.append.proofs.Sound.{appended-chain, appended-sound}
 use Rattle.roll.specs.declared.Way.{Way}
-use Rattle.roll.specs.Slots.{slotCount}
-use Rattle.roll.specs.Roll.{links, isRoll, spacing, checkpoints, isRollOf}
-use Rattle.roll.specs.Checkpoints.{laid, laidAfter}
+use Rattle.checkpoints.specs.Slots.{slotCount}
+use Rattle.checkpoints.specs.Roll.{links, isRoll, spacing, checkpoints, isRollOf}
+use Rattle.checkpoints.specs.Checkpoints.{laid, laidAfter}
 use Rattle.roll.specs.Way.{wayOf}
-use Rattle.roll.proofs.Spacing.{step, at-checkpoint, blocks-at, unreached, no-fewer}
-use Rattle.roll.proofs.Form.{roll-of}
-use Rattle.roll.proofs.Shown.{laid-size, laid-links, laid-roll}
+use Rattle.checkpoints.proofs.Spacing.{step, at-checkpoint, blocks-at, unreached, no-fewer}
+use Rattle.checkpoints.proofs.Form.{roll-of}
+use Rattle.checkpoints.proofs.Shown.{laid-size, laid-links, laid-roll}
 use Rattle.append_roll.specs.AppendRoll.{due, isFull, appendRollAnswer, appendRollCall, checkpointChain, appendedRoll}
 
 -- a call that is accepted passed every test

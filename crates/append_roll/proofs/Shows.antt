@@ -16,11 +16,11 @@ use Rattle.lsh.proofs.Blocks.{forwards-chain}
 use Rattle.lsh.proofs.Bytes.{octets}
 use Rattle.record.specs.declared.Record.{Record}
 use Rattle.record.proofs.Sound.{Sound, sounds, chain-is}
-use Rattle.roll.specs.Slots.{slotAt}
-use Rattle.roll.specs.Members.{member}
-use Rattle.roll.specs.Roll.{links, shown, checkpoints}
-use Rattle.roll.proofs.Form.{roll-of}
-use Rattle.roll.proofs.Shown.{Laid, laid-all}
+use Rattle.checkpoints.specs.Slots.{slotAt}
+use Rattle.checkpoints.specs.Members.{member}
+use Rattle.checkpoints.specs.Roll.{links, shown, checkpoints}
+use Rattle.checkpoints.proofs.Form.{roll-of}
+use Rattle.checkpoints.proofs.Shown.{Laid, laid-all}
 use Rattle.append_roll.specs.AppendRoll.{due, appendRollAnswer, checkpointChain, appendedRoll}
 use Rattle.append_roll.proofs.Parts.{Accepted, accepted}
 

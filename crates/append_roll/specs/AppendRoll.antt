@@ -13,9 +13,9 @@ use Rattle.record.specs.declared.Record.{Record}
 use Rattle.record.specs.declared.Outcome.{Outcome}
 use Rattle.record.specs.Record.{heldBytes, sound, refused}
 use Rattle.append.specs.Append.{appendAccepted}
-use Rattle.roll.specs.Slots.{slotCount}
-use Rattle.roll.specs.Roll.{links, spacing, checkpoints, isRollOf}
-use Rattle.roll.specs.Checkpoints.{laidAfter}
+use Rattle.checkpoints.specs.Slots.{slotCount}
+use Rattle.checkpoints.specs.Roll.{links, spacing, checkpoints, isRollOf}
+use Rattle.checkpoints.specs.Checkpoints.{laidAfter}
 
 -- how many checkpoints are due with size bytes more
 unfoldable pub due : Record → ℕ → ℕ

@@ -6,7 +6,7 @@ ghost use Rattle.block_call.specs.BlockCall.{blockAnswer, forwardBytes, backwar
 ghost use Rattle.record.specs.Open.{openCall};
 ghost use Rattle.append.specs.Append.{appendCall};
 ghost use Rattle.rewind.specs.Rewind.{rewindCall};
-ghost use Rattle.roll.specs.FreeSlot.{freeSlot, FreeChoice};
+ghost use Rattle.checkpoints.specs.FreeSlot.{freeSlot, FreeChoice};
 ghost use Rattle.append_roll.specs.AppendRoll.{appendRollCall, appendedRoll};
 ghost use Rattle.rewind_roll.specs.RewindRoll.{rewindRollCall, rewoundRoll};
 ghost use Rattle.close.specs.Close.{closeAnswer, closeOutput};

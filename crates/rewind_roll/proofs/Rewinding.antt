@@ -11,8 +11,8 @@ use Rattle.record.specs.declared.Record.{Record}
 use Rattle.record.specs.declared.Outcome.{Outcome}
 use Rattle.record.specs.Record.{sound, refused}
 use Rattle.rewind.specs.Rewind.{rewindCall}
-use Rattle.roll.specs.Roll.{checkpoints, isRollOf}
-use Rattle.roll.specs.Checkpoints.{unlinked}
+use Rattle.checkpoints.specs.Roll.{checkpoints, isRollOf}
+use Rattle.checkpoints.specs.Checkpoints.{unlinked}
 use Rattle.rewind_roll.specs.RewindRoll.{rewindRollCall, rewoundRoll}
 
 module _ (r : Record) (keep : ℕ) (h roll : List ℕ) {o : Outcome} (is : o ≡ rewindRollCall r keep h roll) where

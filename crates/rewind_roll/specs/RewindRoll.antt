@@ -9,8 +9,8 @@ use Rattle.record.specs.declared.Record.{Record}
 use Rattle.record.specs.declared.Outcome.{Outcome}
 use Rattle.record.specs.Record.{sound, refused}
 use Rattle.rewind.specs.Rewind.{rewindCall}
-use Rattle.roll.specs.Roll.{checkpoints, isRollOf}
-use Rattle.roll.specs.Checkpoints.{unlinked}
+use Rattle.checkpoints.specs.Roll.{checkpoints, isRollOf}
+use Rattle.checkpoints.specs.Checkpoints.{unlinked}
 
 -- 3 if the record is not sound, then 15 if the roll is none of the record, and then as Rewind without a roll: 6, 7, 8, 9, else 0
 unfoldable pub rewindRollCall : Record → ℕ → List ℕ → List ℕ → Outcome

@@ -1,10 +1,3 @@
--- Laws of rolls.
-pub mod Members
-pub mod Ways
-pub mod Places
-pub mod Writes
-pub mod Form
-pub mod Shown
+-- Laws of the code's loops.
 pub mod Sizes
 pub mod Walked
-pub mod Spacing

@@ -5,7 +5,7 @@ use native.Mathlib.Nat.{mul-le-mul}
 use native.Mathlib.Omega.{arith}
 use Rattle.lsh.specs.WordSize.{WordSize, lsh256, lsh512, sizeOf, chainBytes}
 use Rattle.lsh.proofs.Figures.{of-both}
-use Rattle.roll.specs.Slots.{mostSlots, slotBytes}
+use Rattle.checkpoints.specs.Slots.{mostSlots, slotBytes}
 
 pub slot-most : (w : ℕ) → slotBytes (sizeOf w) ≤ 256
 unfolding slotBytes chainBytes lsh256 lsh512

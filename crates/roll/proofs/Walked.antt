@@ -18,15 +18,15 @@ use Rattle.lsh.specs.Block.{Chain}
 use Rattle.lsh.proofs.Bytes.{Octets}
 use Rattle.lsh.proofs.Tabulate.{length-tabulate, at-tabulate, tabulate-ext}
 use Rattle.roll.specs.declared.Way.{Way}
-use Rattle.roll.specs.Slots.{mostSlots, slotCount, isRollLength}
-use Rattle.roll.specs.Members.{member, repeats, allUpTo}
-use Rattle.roll.specs.Roll.{nextIndex, links, isRoll}
-use Rattle.roll.specs.Checkpoints.{leadTo, taken, laid}
+use Rattle.checkpoints.specs.Slots.{mostSlots, slotCount, isRollLength}
+use Rattle.checkpoints.specs.Members.{member, repeats, allUpTo}
+use Rattle.checkpoints.specs.Roll.{nextIndex, links, isRoll}
+use Rattle.checkpoints.specs.Checkpoints.{leadTo, taken, laid}
 use Rattle.roll.specs.Way.{marked, notARoll, wayOf}
-use Rattle.roll.proofs.Members.{member-at, member-take, member-cases, member-snoc, repeats-snoc, repeats-again, distinct-few, all-up-to}
-use Rattle.roll.proofs.Ways.{met-first, met-next}
-use Rattle.roll.proofs.Form.{sized, Linked, linked, links-some}
-use Rattle.roll.proofs.Shown.{taken-within, laid-size, laid-links, laid-roll}
+use Rattle.checkpoints.proofs.Members.{member-at, member-take, member-cases, member-snoc, repeats-snoc, repeats-again, distinct-few, all-up-to}
+use Rattle.checkpoints.proofs.Ways.{met-first, met-next}
+use Rattle.checkpoints.proofs.Form.{sized, Linked, linked, links-some}
+use Rattle.checkpoints.proofs.Shown.{taken-within, laid-size, laid-links, laid-roll}
 
 -- the marks of a list
 

@@ -8,10 +8,10 @@ use lib.ListN.{length, replicate}
 use Rattle.lsh.specs.Tabulate.{tabulate}
 use Rattle.lsh.specs.WordSize.{WordSize}
 use Rattle.roll.specs.declared.Way.{Way}
-use Rattle.roll.specs.Slots.{mostSlots, slotCount}
-use Rattle.roll.specs.Members.{member}
-use Rattle.roll.specs.Roll.{links, isRoll}
-use Rattle.roll.specs.Checkpoints.{leadTo}
+use Rattle.checkpoints.specs.Slots.{mostSlots, slotCount}
+use Rattle.checkpoints.specs.Members.{member}
+use Rattle.checkpoints.specs.Roll.{links, isRoll}
+use Rattle.checkpoints.specs.Checkpoints.{leadTo}
 
 -- 1 at the place of each number of the list
 unfoldable pub marked : List ℕ → List ℕ

@@ -7,10 +7,10 @@ ghost use lib.ListN.{length, set, replicate};
 ghost use Rattle.lsh.specs.WordSize.{isWordSize, sizeOf};
 ghost use Rattle.lsh.specs.Bytes.{wordAt};
 ghost use Rattle.lsh.specs.Block.{Chain};
-ghost use Rattle.roll.specs.Slots.{indexBytes, mostSlots, slotBytes, slotCount, isRollLength, indexPlace};
-ghost use Rattle.roll.specs.Roll.{nextIndex, links, isRoll, checkpoints, isRollOf};
-ghost use Rattle.roll.specs.FreeSlot.{freeSlot};
-ghost use Rattle.roll.specs.Checkpoints.{withIndex, withSlot, leadTo, laid, unlinked};
+ghost use Rattle.checkpoints.specs.Slots.{indexBytes, mostSlots, slotBytes, slotCount, isRollLength, indexPlace};
+ghost use Rattle.checkpoints.specs.Roll.{nextIndex, links, isRoll, checkpoints, isRollOf};
+ghost use Rattle.checkpoints.specs.FreeSlot.{freeSlot};
+ghost use Rattle.checkpoints.specs.Checkpoints.{withIndex, withSlot, leadTo, laid, unlinked};
 ghost use Rattle.roll.specs.Way.{marked, notARoll, wayOf};
 use record::Record;
 

@@ -19,8 +19,8 @@ use Rattle.lsh.proofs.Opening.{opening-chain}
 use Rattle.lsh.proofs.Padding.{firstBlocks-add, firstBlocks-front}
 use Rattle.record.specs.Record.{recordOf}
 use Rattle.record.proofs.Strings.{held-record}
-use Rattle.roll.specs.Roll.{spacing, checkpoints}
-use Rattle.roll.proofs.Spacing.{step, fewer-blocks}
+use Rattle.checkpoints.specs.Roll.{spacing, checkpoints}
+use Rattle.checkpoints.proofs.Spacing.{step, fewer-blocks}
 use Rattle.append_roll.specs.AppendRoll.{checkpointChain}
 use Rattle.tape.specs.TapeRoll.{tapeChains}
 

@@ -18,8 +18,8 @@ use Rattle.record.specs.Record.{zeros, recordOf, refused}
 use Rattle.record.specs.Open.{opened, openCall}
 use Rattle.record.proofs.Strings.{record-none}
 use Rattle.rewind.specs.Rewind.{startsOffBlock, keepsTooMuch}
-use Rattle.roll.specs.Roll.{newRoll, spacing, checkpoints}
-use Rattle.roll.proofs.Form.{new-size, new-links, new-shown, new-roll, is-roll-of}
+use Rattle.checkpoints.specs.Roll.{newRoll, spacing, checkpoints}
+use Rattle.checkpoints.proofs.Form.{new-size, new-links, new-shown, new-roll, is-roll-of}
 use Rattle.tape.specs.Sequence.{Given, answers}
 use Rattle.tape.specs.Tape.{Lent, NoRoll, Roll, wholeBlocks, tooManyBlocks, stays, tapeAppend, tapeRewind}
 use Rattle.tape.specs.Calls.{Call, Append, Rewind, Order, orderCall, tapeCall, HandsBack, forwardCount, backwardCount}

@@ -17,12 +17,12 @@ use Rattle.record.specs.declared.Outcome.{Outcome}
 use Rattle.record.specs.Record.{recordOf, refused}
 use Rattle.append.specs.Append.{appendAccepted, appendCall}
 use Rattle.rewind.specs.Rewind.{startsOffBlock, keepsTooMuch, rewindCall}
-use Rattle.roll.specs.Slots.{slotCount}
-use Rattle.roll.specs.Roll.{links, shown, isRoll, checkpoints}
-use Rattle.roll.specs.Checkpoints.{laidAfter, unlinked}
-use Rattle.roll.proofs.Form.{slots-are, roll-of, is-roll-of}
-use Rattle.roll.proofs.Shown.{shown-many, unlinked-cut, Cut, Laid, laid-all}
-use Rattle.roll.proofs.Spacing.{within, no-fewer}
+use Rattle.checkpoints.specs.Slots.{slotCount}
+use Rattle.checkpoints.specs.Roll.{links, shown, isRoll, checkpoints}
+use Rattle.checkpoints.specs.Checkpoints.{laidAfter, unlinked}
+use Rattle.checkpoints.proofs.Form.{slots-are, roll-of, is-roll-of}
+use Rattle.checkpoints.proofs.Shown.{shown-many, unlinked-cut, Cut, Laid, laid-all}
+use Rattle.checkpoints.proofs.Spacing.{within, no-fewer}
 use Rattle.append_roll.specs.AppendRoll.{due, isFull, appendRollAnswer, appendRollCall, checkpointChain, appendedRoll}
 use Rattle.append_roll.proofs.Parts.{full-is}
 use Rattle.rewind_roll.specs.RewindRoll.{rewindRollCall, rewoundRoll}

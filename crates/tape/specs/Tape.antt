@@ -9,8 +9,8 @@ use lib.ListN.{length, take}
 use Rattle.lsh.specs.WordSize.{sizeOf, blockBytes}
 use Rattle.runs.specs.Limits.{limit}
 use Rattle.rewind.specs.Rewind.{startsOffBlock, keepsTooMuch}
-use Rattle.roll.specs.Slots.{mostSlots}
-use Rattle.roll.specs.Roll.{spacing}
+use Rattle.checkpoints.specs.Slots.{mostSlots}
+use Rattle.checkpoints.specs.Roll.{spacing}
 use Rattle.tape.specs.Sequence.{Given}
 
 -- a number of slots that a roll can have

@@ -10,8 +10,8 @@ use Rattle.lsh.specs.Block.{forwards}
 use Rattle.lsh.specs.Opening.{opening}
 use Rattle.lsh.specs.Padding.{firstBlocks}
 use Rattle.record.specs.Record.{recordOf}
-use Rattle.roll.specs.Slots.{rollBytes}
-use Rattle.roll.specs.Roll.{newRoll, shown, spacing, checkpoints, isRollOf}
+use Rattle.checkpoints.specs.Slots.{rollBytes}
+use Rattle.checkpoints.specs.Roll.{newRoll, shown, spacing, checkpoints, isRollOf}
 use Rattle.tape.specs.Tape.{Lent, NoRoll, Roll}
 
 -- the tape's first m of these chains: the k-th is the opening chain run over the tape's first 64 k blocks

@@ -11,9 +11,9 @@ use Rattle.lsh.specs.WordSize.{sizeOf}
 use Rattle.runs.specs.Limits.{limit}
 use Rattle.record.specs.Record.{sound}
 use Rattle.record.proofs.Sound.{Sound, sounds}
-use Rattle.roll.specs.Roll.{isRollOf}
+use Rattle.checkpoints.specs.Roll.{isRollOf}
 use Rattle.roll.specs.Way.{wayOf}
-use Rattle.roll.proofs.Form.{roll-of}
+use Rattle.checkpoints.proofs.Form.{roll-of}
 use Rattle.roll.proofs.Walked.{way-slots}
 use Rattle.append_roll.specs.AppendRoll.{isFull, appendRollAnswer}
 use Rattle.append_roll.proofs.Parts.{full-is}

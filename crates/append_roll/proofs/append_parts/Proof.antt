@@ -15,10 +15,10 @@ use Rattle.record.specs.declared.Record.{Record}
 use Rattle.record.specs.Record.{heldOf, sound}
 use Rattle.record.proofs.Sound.{Sound, sounds}
 use Rattle.append.specs.Append.{appended}
-use Rattle.roll.specs.Roll.{checkpoints}
-use Rattle.roll.specs.Checkpoints.{laid}
-use Rattle.roll.proofs.Form.{roll-of}
-use Rattle.roll.proofs.Spacing.{step}
+use Rattle.checkpoints.specs.Roll.{checkpoints}
+use Rattle.checkpoints.specs.Checkpoints.{laid}
+use Rattle.checkpoints.proofs.Form.{roll-of}
+use Rattle.checkpoints.proofs.Spacing.{step}
 use Rattle.append_roll.proofs.Parts.{Accepted, accepted, goal-of, accepted-roll, due-after, Parted, so-far-sound, none-reached, first-room, first-parted, first-rest, chain-ok, count-few, next-room, parted-more, parted-roll, parted-end, order-there}
 use Rattle.append_roll.proofs.append_parts.Statement.{statement}
 use Rattle.append_roll.proofs.append_parts.Tie as tie

@@ -1,7 +1,7 @@
 -- `append_roll::append_roll` meets its contract, by the answer. Assumes nothing.
 use mathlib.Core.Path.{sym, _∙_}
 use borrow.Author.Needs.{needs}
-use Rattle.roll.proofs.Members.{free-choice}
+use Rattle.checkpoints.proofs.Members.{free-choice}
 use Rattle.append_roll.proofs.Parts.{refused-call, accepted-call}
 use Rattle.append_roll.proofs.append_roll.Statement.{statement}
 use Rattle.append_roll.proofs.append_roll.Tie as tie

@@ -11,7 +11,7 @@ use Rattle.record.specs.declared.Outcome.{Outcome}
 use Rattle.record.proofs.Sound.{sounds}
 use Rattle.append.specs.Append.{appended, appendAccepted}
 use Rattle.append.proofs.Sound.{appended-chain}
-use Rattle.roll.specs.Checkpoints.{laid}
+use Rattle.checkpoints.specs.Checkpoints.{laid}
 use Rattle.roll.proofs.Walked.{way-count, way-slots}
 use Rattle.append_roll.proofs.first_part.Statement.{statement}
 use Rattle.append_roll.proofs.first_part.Tie as tie

@@ -4,7 +4,7 @@ use native.Mathlib.Nat.{mod-lt}
 use native.Mathlib.Omega.{arith}
 use borrow.Author.Needs.{needs}
 use Rattle.lsh.proofs.Figures.{block-some}
-use Rattle.roll.proofs.Spacing.{to-next}
+use Rattle.checkpoints.proofs.Spacing.{to-next}
 use Rattle.append_roll.proofs.to_checkpoint.Statement.{statement}
 use Rattle.append_roll.proofs.to_checkpoint.Tie as tie
 

@@ -3,8 +3,8 @@ use mathlib.Core.Path.{ap, _∙_}
 use Prim.Native.Nat.{ℕ}
 use borrow.Author.Needs.{needs}
 use Rattle.lsh.specs.WordSize.{sizeOf}
-use Rattle.roll.specs.Checkpoints.{unlinked}
-use Rattle.roll.proofs.Form.{roll-of}
+use Rattle.checkpoints.specs.Checkpoints.{unlinked}
+use Rattle.checkpoints.proofs.Form.{roll-of}
 use Rattle.roll.proofs.Walked.{way-count}
 use Rattle.rewind_roll.proofs.Rewinding.{roll-stays, is-roll-of, roll-cut}
 use Rattle.rewind_roll.proofs.rewind_roll.Statement.{statement}

@@ -1,7 +1,7 @@
 -- `roll::checkpoints` meets its contract. Assumes nothing.
 use borrow.Author.Needs.{needs}
 use Rattle.lsh.proofs.Figures.{block-some}
-use Rattle.roll.specs.Roll.{checkpoints}
+use Rattle.checkpoints.specs.Roll.{checkpoints}
 use Rattle.roll.proofs.checkpoints.Statement.{statement}
 use Rattle.roll.proofs.checkpoints.Tie as tie
 

@@ -6,9 +6,9 @@ use Prim.Native.Nat.{ℕ, suc, _+_, _-_, _≤_, _<_}
 use native.Mathlib.Numerals.{add-one}
 use native.Mathlib.Omega.{arith}
 use Rattle.lsh.specs.Tabulate.{at}
-use Rattle.roll.specs.Slots.{mostSlots}
-use Rattle.roll.specs.Members.{member}
-use Rattle.roll.specs.FreeSlot.{firstFree, freeSlot}
+use Rattle.checkpoints.specs.Slots.{mostSlots}
+use Rattle.checkpoints.specs.Members.{member}
+use Rattle.checkpoints.specs.FreeSlot.{firstFree, freeSlot}
 use Rattle.roll.specs.Way.{marked}
 use Rattle.roll.proofs.Walked.{unmarked, marked-is}
 use Rattle.roll.proofs.free_slot.Statement.{statement}

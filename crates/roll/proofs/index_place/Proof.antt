@@ -4,7 +4,7 @@ use Prim.Native.Nat.{ℕ, zero, suc, _+_, _-_, _*_, _≤_}
 use native.Mathlib.Omega.{arith}
 use borrow.Author.Needs.{needs}
 use Rattle.lsh.specs.WordSize.{WordSize, sizeOf}
-use Rattle.roll.specs.Slots.{indexBytes, mostSlots, slotBytes, rollBytes, indexPlace}
+use Rattle.checkpoints.specs.Slots.{indexBytes, mostSlots, slotBytes, rollBytes, indexPlace}
 use Rattle.roll.proofs.Sizes.{slots-most}
 use Rattle.roll.proofs.index_place.Statement.{statement}
 use Rattle.roll.proofs.index_place.Tie as tie

@@ -3,7 +3,7 @@ use Prim.Native.Nat.{_*_, _≤_}
 use native.Mathlib.Omega.{arith}
 use borrow.Author.Needs.{needs}
 use borrow.Author.Tests.{le-leb, lt-leb}
-use Rattle.roll.specs.Slots.{mostSlots, rollBytes, isRollLength}
+use Rattle.checkpoints.specs.Slots.{mostSlots, rollBytes, isRollLength}
 use Rattle.roll.proofs.Sizes.{slots-most}
 use Rattle.roll.proofs.is_roll_length.Statement.{statement}
 use Rattle.roll.proofs.is_roll_length.Tie as tie

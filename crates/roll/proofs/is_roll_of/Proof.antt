@@ -4,7 +4,7 @@ use mathlib.Core.Bool.{true}
 use borrow.Author.Needs.{needs}
 use borrow.Author.Tests.{not-true, not-false}
 use Rattle.lsh.specs.WordSize.{sizeOf}
-use Rattle.roll.specs.Roll.{isRoll, checkpoints, isRollOf}
+use Rattle.checkpoints.specs.Roll.{isRoll, checkpoints, isRollOf}
 use Rattle.roll.proofs.Walked.{way-form, way-count}
 use Rattle.roll.proofs.is_roll_of.Statement.{statement}
 use Rattle.roll.proofs.is_roll_of.Tie as tie

@@ -9,14 +9,14 @@ use borrow.Author.Needs.{needs}
 use Rattle.lsh.specs.WordSize.{WordSize, sizeOf}
 use Rattle.lsh.proofs.Bytes.{Octets, octets}
 use Rattle.roll.specs.declared.Way.{Way}
-use Rattle.roll.specs.Slots.{slotCount}
-use Rattle.roll.specs.Roll.{links}
-use Rattle.roll.specs.FreeSlot.{freeSlot}
-use Rattle.roll.specs.Checkpoints.{withIndex, withSlot, leadTo, taken, laid}
+use Rattle.checkpoints.specs.Slots.{slotCount}
+use Rattle.checkpoints.specs.Roll.{links}
+use Rattle.checkpoints.specs.FreeSlot.{freeSlot}
+use Rattle.checkpoints.specs.Checkpoints.{withIndex, withSlot, leadTo, taken, laid}
 use Rattle.roll.specs.Way.{wayOf}
-use Rattle.roll.proofs.Form.{Linked, linked, Sized, sized}
-use Rattle.roll.proofs.Shown.{lead-in, taken-within}
-use Rattle.roll.proofs.Writes.{slot-size}
+use Rattle.checkpoints.proofs.Form.{Linked, linked, Sized, sized}
+use Rattle.checkpoints.proofs.Shown.{lead-in, taken-within}
+use Rattle.checkpoints.proofs.Writes.{slot-size}
 use Rattle.roll.proofs.Walked.{known, way-is, way-more}
 use Rattle.roll.proofs.lay.Statement.{statement}
 use Rattle.roll.proofs.lay.Tie as tie

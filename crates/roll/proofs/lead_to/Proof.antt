@@ -6,10 +6,10 @@ use native.Mathlib.Omega.{arith}
 use lib.ListN.{length}
 use Rattle.lsh.specs.WordSize.{sizeOf}
 use Rattle.lsh.proofs.Bytes.{octets}
-use Rattle.roll.specs.Roll.{nextIndex, links}
-use Rattle.roll.specs.Checkpoints.{leadTo}
-use Rattle.roll.proofs.Form.{linked}
-use Rattle.roll.proofs.Shown.{lead-in}
+use Rattle.checkpoints.specs.Roll.{nextIndex, links}
+use Rattle.checkpoints.specs.Checkpoints.{leadTo}
+use Rattle.checkpoints.proofs.Form.{linked}
+use Rattle.checkpoints.proofs.Shown.{lead-in}
 use Rattle.roll.proofs.Walked.{lead-next}
 use Rattle.roll.proofs.lead_to.Statement.{statement}
 use Rattle.roll.proofs.lead_to.Tie as tie

@@ -4,10 +4,10 @@ use Prim.Native.Nat.{ℕ}
 use native.Mathlib.Omega.{arith}
 use Rattle.lsh.specs.WordSize.{sizeOf}
 use Rattle.lsh.specs.Bytes.{wordAt}
-use Rattle.roll.specs.Slots.{indexBytes}
-use Rattle.roll.specs.Roll.{nextIndex}
-use Rattle.roll.proofs.Places.{index-in}
-use Rattle.roll.proofs.Form.{Sized, sized}
+use Rattle.checkpoints.specs.Slots.{indexBytes}
+use Rattle.checkpoints.specs.Roll.{nextIndex}
+use Rattle.checkpoints.proofs.Places.{index-in}
+use Rattle.checkpoints.proofs.Form.{Sized, sized}
 use Rattle.roll.proofs.next_index.Statement.{statement}
 use Rattle.roll.proofs.next_index.Tie as tie
 

@@ -9,10 +9,10 @@ use borrow.Author.Needs.{needs}
 use Rattle.lsh.specs.Tabulate.{tabulateFrom, tabulate}
 use Rattle.lsh.specs.WordSize.{sizeOf}
 use Rattle.lsh.specs.Bytes.{byteAt}
-use Rattle.roll.specs.Slots.{indexBytes, mostSlots}
-use Rattle.roll.specs.Checkpoints.{withIndex}
-use Rattle.roll.proofs.Places.{index-in}
-use Rattle.roll.proofs.Form.{Sized, sized}
+use Rattle.checkpoints.specs.Slots.{indexBytes, mostSlots}
+use Rattle.checkpoints.specs.Checkpoints.{withIndex}
+use Rattle.checkpoints.proofs.Places.{index-in}
+use Rattle.checkpoints.proofs.Form.{Sized, sized}
 use Rattle.roll.proofs.put_index.Statement.{statement}
 use Rattle.roll.proofs.put_index.Tie as tie
 

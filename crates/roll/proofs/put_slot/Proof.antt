@@ -9,11 +9,11 @@ use borrow.Author.Needs.{needs}
 use Rattle.lsh.specs.WordSize.{sizeOf, chainBytes}
 use Rattle.lsh.specs.Bytes.{bytesOf}
 use Rattle.lsh.proofs.Bytes.{octets, length-chain}
-use Rattle.roll.specs.Slots.{indexBytes, chainPlace}
-use Rattle.roll.specs.Checkpoints.{withIndex, withSlot}
-use Rattle.roll.proofs.Places.{chain-in}
-use Rattle.roll.proofs.Form.{Sized, sized}
-use Rattle.roll.proofs.Writes.{index-size}
+use Rattle.checkpoints.specs.Slots.{indexBytes, chainPlace}
+use Rattle.checkpoints.specs.Checkpoints.{withIndex, withSlot}
+use Rattle.checkpoints.proofs.Places.{chain-in}
+use Rattle.checkpoints.proofs.Form.{Sized, sized}
+use Rattle.checkpoints.proofs.Writes.{index-size}
 use Rattle.roll.proofs.put_slot.Statement.{statement}
 use Rattle.roll.proofs.put_slot.Tie as tie
 

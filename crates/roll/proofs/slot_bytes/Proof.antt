@@ -3,7 +3,7 @@ use mathlib.Core.Path.{ap}
 use Prim.Native.Nat.{ℕ, _+_}
 use native.Mathlib.Omega.{arith}
 use borrow.Author.Needs.{needs}
-use Rattle.roll.specs.Slots.{indexBytes, slotBytes}
+use Rattle.checkpoints.specs.Slots.{indexBytes, slotBytes}
 use Rattle.roll.proofs.Sizes.{slot-most}
 use Rattle.roll.proofs.slot_bytes.Statement.{statement}
 use Rattle.roll.proofs.slot_bytes.Tie as tie

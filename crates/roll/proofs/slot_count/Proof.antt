@@ -5,7 +5,7 @@ use native.Mathlib.Nat.{zero-div}
 use native.Mathlib.Omega.{arith}
 use borrow.Author.Needs.{needs}
 use Rattle.lsh.specs.WordSize.{sizeOf}
-use Rattle.roll.specs.Slots.{indexBytes, slotBytes, slotCount}
+use Rattle.checkpoints.specs.Slots.{indexBytes, slotBytes, slotCount}
 use Rattle.roll.proofs.Sizes.{slot-some}
 use Rattle.roll.proofs.slot_count.Statement.{statement}
 use Rattle.roll.proofs.slot_count.Tie as tie

@@ -7,10 +7,10 @@ use borrow.Author.Needs.{needs}
 use borrow.Author.Tests.{lt-ltb, le-ltb}
 use Rattle.lsh.specs.WordSize.{sizeOf}
 use Rattle.lsh.proofs.Bytes.{octets}
-use Rattle.roll.specs.Roll.{links}
-use Rattle.roll.specs.Checkpoints.{withIndex, unlinked}
-use Rattle.roll.proofs.Form.{linked}
-use Rattle.roll.proofs.Shown.{lead-in}
+use Rattle.checkpoints.specs.Roll.{links}
+use Rattle.checkpoints.specs.Checkpoints.{withIndex, unlinked}
+use Rattle.checkpoints.proofs.Form.{linked}
+use Rattle.checkpoints.proofs.Shown.{lead-in}
 use Rattle.roll.proofs.unlink.Statement.{statement}
 use Rattle.roll.proofs.unlink.Tie as tie
 

@@ -4,8 +4,8 @@ use Prim.Native.Nat.{_-_, _≤_, _<_, zero-le}
 use native.Mathlib.Omega.{arith}
 use lib.ListN.{length}
 use Rattle.lsh.specs.WordSize.{sizeOf}
-use Rattle.roll.specs.Slots.{slotCount}
-use Rattle.roll.proofs.Form.{Sized, sized}
+use Rattle.checkpoints.specs.Slots.{slotCount}
+use Rattle.checkpoints.proofs.Form.{Sized, sized}
 use Rattle.roll.proofs.Walked.{Walked, walked-none, walked-beyond, walked-twice, walked-few, walked-more, walked-all}
 use Rattle.roll.proofs.walk_links.Statement.{statement}
 use Rattle.roll.proofs.walk_links.Tie as tie

@@ -4,7 +4,7 @@ use mathlib.Core.Path.{_≡_, refl, ap}
 use Prim.Native.Nat.{ℕ, zero, suc, _+_, _-_, _*_, _≤_, _<_}
 use native.Mathlib.Omega.{arith}
 use Rattle.lsh.specs.WordSize.{WordSize, chainBytes}
-use Rattle.roll.specs.Slots.{indexBytes, slotBytes, rollBytes, indexPlace, chainPlace}
+use Rattle.checkpoints.specs.Slots.{indexBytes, slotBytes, rollBytes, indexPlace, chainPlace}
 
 module _ (z : WordSize) where
   -- a roll of more slots has at least a slot's bytes more

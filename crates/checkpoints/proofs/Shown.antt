@@ -16,15 +16,15 @@ use Rattle.lsh.specs.WordSize.{WordSize}
 use Rattle.lsh.specs.Block.{Chain}
 use Rattle.lsh.proofs.Tests.{or-false, is-false}
 use Rattle.lsh.proofs.Bytes.{Octets}
-use Rattle.roll.specs.Slots.{slotCount, isRollLength, slotAt}
-use Rattle.roll.specs.Members.{member, repeats}
-use Rattle.roll.specs.Roll.{nextIndex, links, chainIn, shown, isRoll}
-use Rattle.roll.specs.FreeSlot.{Unlinked, FreeChoice}
-use Rattle.roll.specs.Checkpoints.{withIndex, withSlot, leadTo, taken, laid, laidAfter, unlinked}
-use Rattle.roll.proofs.Members.{apart, member-here, member-there, member-cases, member-at, member-take, member-snoc, repeats-take, repeats-snoc, free-choice}
-use Rattle.roll.proofs.Ways.{Leads, relinked}
-use Rattle.roll.proofs.Writes.{index-size, next-is, next-other, chain-kept, slot-size, slot-next, slot-next-other, slot-chain, slot-chain-other, slot-kept, slot-kept-other}
-use Rattle.roll.proofs.Form.{Sized, sized, Linked, linked, links-are, is-roll}
+use Rattle.checkpoints.specs.Slots.{slotCount, isRollLength, slotAt}
+use Rattle.checkpoints.specs.Members.{member, repeats}
+use Rattle.checkpoints.specs.Roll.{nextIndex, links, chainIn, shown, isRoll}
+use Rattle.checkpoints.specs.FreeSlot.{Unlinked, FreeChoice}
+use Rattle.checkpoints.specs.Checkpoints.{withIndex, withSlot, leadTo, taken, laid, laidAfter, unlinked}
+use Rattle.checkpoints.proofs.Members.{apart, member-here, member-there, member-cases, member-at, member-take, member-snoc, repeats-take, repeats-snoc, free-choice}
+use Rattle.checkpoints.proofs.Ways.{Leads, relinked}
+use Rattle.checkpoints.proofs.Writes.{index-size, next-is, next-other, chain-kept, slot-size, slot-next, slot-next-other, slot-chain, slot-chain-other, slot-kept, slot-kept-other}
+use Rattle.checkpoints.proofs.Form.{Sized, sized, Linked, linked, links-are, is-roll}
 
 -- the same function on the numbers of a list, and on parts of it
 map-same : (f g : ℕ → List ℕ) (l : List ℕ) → ((x : ℕ) → member x l ≡ true → f x ≡ g x) → map f l ≡ map g l

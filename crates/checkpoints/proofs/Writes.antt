@@ -16,10 +16,10 @@ use Rattle.lsh.specs.Block.{Chain}
 use Rattle.lsh.proofs.Tabulate.{length-tabulate, at-tabulate, tabulate-cong}
 use Rattle.lsh.proofs.Bytes.{Octets, word-bytes, chain-bytes, length-chain, words-of-bytes}
 use Rattle.engine.proofs.Places.{at-sets-before, at-sets-after, at-sets-in}
-use Rattle.roll.specs.Slots.{indexBytes, slotBytes, rollBytes, indexPlace, chainPlace, slotAt}
-use Rattle.roll.specs.Roll.{nextIndex, chainIn}
-use Rattle.roll.specs.Checkpoints.{withIndex, withSlot}
-use Rattle.roll.proofs.Places.{index-before, slot-before, index-in, slot-is, chain-in, chain-before}
+use Rattle.checkpoints.specs.Slots.{indexBytes, slotBytes, rollBytes, indexPlace, chainPlace, slotAt}
+use Rattle.checkpoints.specs.Roll.{nextIndex, chainIn}
+use Rattle.checkpoints.specs.Checkpoints.{withIndex, withSlot}
+use Rattle.checkpoints.proofs.Places.{index-before, slot-before, index-in, slot-is, chain-in, chain-before}
 
 -- numbers and words of the same bytes
 word-same : (k : ℕ) (s t : List ℕ) (a b : ℕ) → ((q : ℕ) → q < k → at s (a + q) ≡ at t (b + q)) → wordAt k s a ≡ wordAt k t b

@@ -14,11 +14,11 @@ use Rattle.lsh.specs.Bytes.{wordAt}
 use Rattle.lsh.proofs.Tests.{and-true}
 use Rattle.lsh.proofs.Opening.{at-zeros}
 use Rattle.record.specs.declared.Record.{Record}
-use Rattle.roll.specs.Slots.{indexBytes, mostSlots, slotBytes, rollBytes, slotCount, isRollLength, indexPlace}
-use Rattle.roll.specs.Members.{member, repeats, allUpTo}
-use Rattle.roll.specs.Roll.{newRoll, nextIndex, links, chainIn, shown, isRoll, checkpoints, isRollOf}
-use Rattle.roll.proofs.Members.{each-up-to, all-up-to, distinct-few}
-use Rattle.roll.proofs.Ways.{Leads, met-leads, leads-met, met-some}
+use Rattle.checkpoints.specs.Slots.{indexBytes, mostSlots, slotBytes, rollBytes, slotCount, isRollLength, indexPlace}
+use Rattle.checkpoints.specs.Members.{member, repeats, allUpTo}
+use Rattle.checkpoints.specs.Roll.{newRoll, nextIndex, links, chainIn, shown, isRoll, checkpoints, isRollOf}
+use Rattle.checkpoints.proofs.Members.{each-up-to, all-up-to, distinct-few}
+use Rattle.checkpoints.proofs.Ways.{Leads, met-leads, leads-met, met-some}
 
 module _ (z : WordSize) where
   -- a buffer of right length

@@ -13,8 +13,8 @@ use lib.ListN.{length, take}
 use borrow.Author.Tests.{eqb-true, eq-eqb, ne-eqb, leb-true, le-leb}
 use Rattle.lsh.specs.Tabulate.{at}
 use Rattle.lsh.proofs.Tests.{and-true, or-false, is-false}
-use Rattle.roll.specs.Members.{member, repeats, allUpTo}
-use Rattle.roll.specs.FreeSlot.{firstFree, freeSlot, FreeChoice}
+use Rattle.checkpoints.specs.Members.{member, repeats, allUpTo}
+use Rattle.checkpoints.specs.FreeSlot.{firstFree, freeSlot, FreeChoice}
 
 -- a test of either of two
 or-true : (p : Bool) → p || true ≡ true

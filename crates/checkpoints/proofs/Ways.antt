@@ -10,9 +10,9 @@ use native.Mathlib.Omega.{arith}
 use lib.ListN.{length, take}
 use borrow.Author.Tests.{eq-eqb, ne-eqb}
 use Rattle.lsh.specs.Tabulate.{at}
-use Rattle.roll.specs.Members.{member, repeats}
-use Rattle.roll.specs.Roll.{met}
-use Rattle.roll.proofs.Members.{member-here, member-there, member-cases, member-at, repeats-parts, apart}
+use Rattle.checkpoints.specs.Members.{member, repeats}
+use Rattle.checkpoints.specs.Roll.{met}
+use Rattle.checkpoints.proofs.Members.{member-here, member-there, member-cases, member-at, repeats-parts, apart}
 
 -- from index i the slots l are met, and then the way ends
 abbrev pub Leads : (ℕ → ℕ) → ℕ → List ℕ → Type 0

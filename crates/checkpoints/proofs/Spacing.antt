@@ -6,7 +6,7 @@ use native.Mathlib.Nat.{div-div-eq-div-mul, mul-comm, mul-assoc, mul-div-cancel,
 use native.Mathlib.Omega.{arith}
 use Rattle.lsh.specs.WordSize.{sizeOf, blockBytes}
 use Rattle.lsh.proofs.Figures.{block-some}
-use Rattle.roll.specs.Roll.{spacing, checkpoints}
+use Rattle.checkpoints.specs.Roll.{spacing, checkpoints}
 
 module _ (w : ℕ) where
   abbrev B : ℕ

@@ -5,7 +5,7 @@ use mathlib.Core.Bool.{false, cond}
 use mathlib.Core.List.{List}
 use Prim.Native.Nat.{ℕ, zero, suc, _≤_, _<_}
 use lib.ListN.{length}
-use Rattle.roll.specs.Members.{member}
+use Rattle.checkpoints.specs.Members.{member}
 
 -- the first of the n numbers from i on that is not in the list
 abbrev pub firstFree : ℕ → ℕ → List ℕ → ℕ

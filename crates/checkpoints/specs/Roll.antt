@@ -8,8 +8,8 @@ use lib.ListN.{length, drop, replicate}
 use Rattle.lsh.specs.WordSize.{WordSize, sizeOf, blockBytes}
 use Rattle.lsh.specs.Bytes.{wordAt, wordsOf}
 use Rattle.record.specs.declared.Record.{Record}
-use Rattle.roll.specs.Slots.{indexBytes, rollBytes, slotCount, isRollLength, indexPlace, chainPlace}
-use Rattle.roll.specs.Members.{repeats, allUpTo}
+use Rattle.checkpoints.specs.Slots.{indexBytes, rollBytes, slotCount, isRollLength, indexPlace, chainPlace}
+use Rattle.checkpoints.specs.Members.{repeats, allUpTo}
 
 -- a new roll of k slots
 unfoldable pub newRoll : WordSize → ℕ → List ℕ

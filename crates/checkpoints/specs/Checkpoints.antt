@@ -9,9 +9,9 @@ use lib.Seq.{sets}
 use Rattle.lsh.specs.Tabulate.{at, tabulate}
 use Rattle.lsh.specs.WordSize.{WordSize}
 use Rattle.lsh.specs.Bytes.{byteAt, bytesOf}
-use Rattle.roll.specs.Slots.{indexBytes, slotCount, indexPlace, chainPlace}
-use Rattle.roll.specs.Roll.{links}
-use Rattle.roll.specs.FreeSlot.{freeSlot}
+use Rattle.checkpoints.specs.Slots.{indexBytes, slotCount, indexPlace, chainPlace}
+use Rattle.checkpoints.specs.Roll.{links}
+use Rattle.checkpoints.specs.FreeSlot.{freeSlot}
 
 -- the index next written where it leads on from slot i; 0 is the head
 unfoldable pub withIndex : WordSize → List ℕ → ℕ → ℕ → List ℕ

@@ -1,0 +1,8 @@
+-- Laws of rolls.
+pub mod Members
+pub mod Ways
+pub mod Places
+pub mod Writes
+pub mod Form
+pub mod Shown
+pub mod Spacing

@@ -1,0 +1,1 @@
+// No code: specs/ has the definition of a roll of checkpoints, proofs/ its laws.
