@@ -1,3 +1,4 @@
 -- Laws of Append with a roll.
+pub mod Answers
 pub mod Parts
 pub mod Shows

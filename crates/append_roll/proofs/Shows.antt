@@ -22,7 +22,7 @@ use Rattle.checkpoints.specs.Roll.{links, shown, checkpoints}
 use Rattle.checkpoints.proofs.Form.{roll-of}
 use Rattle.checkpoints.proofs.Shown.{Laid, laid-all}
 use Rattle.append_roll.specs.AppendRoll.{due, appendRollAnswer, checkpointChain, appendedRoll}
-use Rattle.append_roll.proofs.Parts.{Accepted, accepted}
+use Rattle.append_roll.proofs.Answers.{Accepted, accepted}
 
 -- d chains, those of the numbers after k
 abbrev pub chainsAfter : (ℕ → List ℕ) → ℕ → ℕ → List (List ℕ)

@@ -24,7 +24,7 @@ use Rattle.checkpoints.proofs.Form.{slots-are, roll-of, is-roll-of}
 use Rattle.checkpoints.proofs.Shown.{shown-many, unlinked-cut, Cut, Laid, laid-all}
 use Rattle.checkpoints.proofs.Spacing.{within, no-fewer}
 use Rattle.append_roll.specs.AppendRoll.{due, isFull, appendRollAnswer, appendRollCall, checkpointChain, appendedRoll}
-use Rattle.append_roll.proofs.Parts.{full-is}
+use Rattle.append_roll.proofs.Answers.{full-is}
 use Rattle.rewind_roll.specs.RewindRoll.{rewindRollCall, rewoundRoll}
 use Rattle.tape.specs.Sequence.{Given}
 use Rattle.tape.specs.Tape.{Lent, NoRoll, Roll, Slots, wholeBlocks, tooManyBlocks, stays, tapeAppend, tapeRewind}

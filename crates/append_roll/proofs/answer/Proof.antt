@@ -16,7 +16,7 @@ use Rattle.roll.specs.Way.{wayOf}
 use Rattle.checkpoints.proofs.Form.{roll-of}
 use Rattle.roll.proofs.Walked.{way-slots}
 use Rattle.append_roll.specs.AppendRoll.{isFull, appendRollAnswer}
-use Rattle.append_roll.proofs.Parts.{full-is}
+use Rattle.append_roll.proofs.Answers.{full-is}
 use Rattle.append_roll.proofs.answer.Statement.{statement}
 use Rattle.append_roll.proofs.answer.Tie as tie
 

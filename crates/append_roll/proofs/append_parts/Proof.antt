@@ -19,7 +19,8 @@ use Rattle.checkpoints.specs.Roll.{checkpoints}
 use Rattle.checkpoints.specs.Checkpoints.{laid}
 use Rattle.checkpoints.proofs.Form.{roll-of}
 use Rattle.checkpoints.proofs.Spacing.{step}
-use Rattle.append_roll.proofs.Parts.{Accepted, accepted, goal-of, accepted-roll, due-after, Parted, so-far-sound, none-reached, first-room, first-parted, first-rest, chain-ok, count-few, next-room, parted-more, parted-roll, parted-end, order-there}
+use Rattle.append_roll.proofs.Answers.{Accepted, accepted, goal-of, accepted-roll}
+use Rattle.append_roll.proofs.Parts.{due-after, Parted, so-far-sound, none-reached, first-room, first-parted, first-rest, chain-ok, count-few, next-room, parted-more, parted-roll, parted-end, order-there}
 use Rattle.append_roll.proofs.append_parts.Statement.{statement}
 use Rattle.append_roll.proofs.append_parts.Tie as tie
 

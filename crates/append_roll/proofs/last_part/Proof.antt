@@ -10,7 +10,7 @@ use Rattle.record.specs.declared.Record.{Record}
 use Rattle.record.specs.declared.Outcome.{Outcome}
 use Rattle.record.specs.Record.{heldOf}
 use Rattle.append.specs.Append.{appendAccepted}
-use Rattle.append_roll.proofs.Parts.{few-blocks}
+use Rattle.append_roll.proofs.Answers.{few-blocks}
 use Rattle.append_roll.proofs.last_part.Statement.{statement}
 use Rattle.append_roll.proofs.last_part.Tie as tie
 
