@@ -114,9 +114,6 @@ module _ (z : WordSize) where
     pub new-roll : isRoll z (newRoll z k) ≡ true
     new-roll = is-roll (newRoll z k) [] new-right new-way refl (λ x h. absurd (false≢true h))
 
-    pub new-slots : slotCount z (length (newRoll z k)) ≡ k
-    new-slots = ap (slotCount z) new-size ∙ slots-are
-
 -- a roll of a record: it is a roll, with a link for each of the record's checkpoints
 pub roll-of : (r : Record) (s : List ℕ) → isRollOf r s ≡ true
     → (isRoll (sizeOf (r .w)) s ≡ true) × (length (links (sizeOf (r .w)) s) ≡ checkpoints (r .w) (r .total))
