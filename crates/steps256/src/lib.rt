@@ -5,24 +5,7 @@ ghost use Rattle.lsh.specs.WordSize.{lsh256};
 ghost use Rattle.lsh.specs.StepConstants.{constant, constants};
 ghost use Rattle.lsh.specs.Lane.{lane, mixLane, unmixLane};
 ghost use Rattle.lsh.specs.Step.{addMessage, mix, unmix, permute, unpermute, step, unstep};
-
-// The figures of the word size.
-pub struct Lsh256 {}
-
-impl Lsh256 {
-    // Bytes of a block and of a chain.
-    pub const BLOCK: usize = 128;
-
-    pub const CHAIN: usize = 64;
-
-    // Ns (5).
-    pub const STEPS: usize = 26;
-
-    // Words of the table of step constants, and of the sub-messages M_0 to M_26.
-    pub const CONSTANTS: usize = 8 * Lsh256::STEPS;
-
-    pub const EXPANDED: usize = 16 * (Lsh256::STEPS + 1);
-}
+use constants256::Lsh256;
 
 // The words X and Y of a lane.
 struct Pair {

@@ -5,24 +5,7 @@ ghost use Rattle.lsh.specs.WordSize.{lsh512};
 ghost use Rattle.lsh.specs.StepConstants.{constant, constants};
 ghost use Rattle.lsh.specs.Lane.{lane, mixLane, unmixLane};
 ghost use Rattle.lsh.specs.Step.{addMessage, mix, unmix, permute, unpermute, step, unstep};
-
-// The figures of the word size.
-pub struct Lsh512 {}
-
-impl Lsh512 {
-    // Bytes of a block and of a chain.
-    pub const BLOCK: usize = 256;
-
-    pub const CHAIN: usize = 128;
-
-    // Ns (5).
-    pub const STEPS: usize = 28;
-
-    // Words of the table of step constants, and of the sub-messages M_0 to M_28.
-    pub const CONSTANTS: usize = 8 * Lsh512::STEPS;
-
-    pub const EXPANDED: usize = 16 * (Lsh512::STEPS + 1);
-}
+use constants512::Lsh512;
 
 // The words X and Y of a lane.
 struct Pair {
