@@ -1,10 +1,11 @@
 // The step constants of LSH-256. The first row is stored, and the others are worked out by their rule (14).
 ghost use mathlib.Core.Path.{_≡_};
-ghost use Prim.Native.Nat.{_*_, _<_};
+ghost use Prim.Native.Nat.{_+_, _*_, _<_, _≤_};
 ghost use lib.ListN.{length};
+ghost use lib.Seq.{sets};
 ghost use Rattle.lsh.specs.WordSize.{lsh256};
 ghost use Rattle.lsh.specs.StepConstants.{constants};
-ghost use Rattle.engine.specs.Constants.{nextFourConstants, withFourConstants};
+ghost use Rattle.engine.specs.Constants.{four, nextFourConstants, withFourConstants};
 
 // The figures of the word size.
 pub struct Lsh256 {}
@@ -36,6 +37,27 @@ const SC_0: [u32; 8] = [
     0x2eeb2642,
 ];
 
+// Four words from place a on.
+fn four(m: &[u32], a: usize) -> [u32; 4]
+    requires { ⌜ a + 4 ≤ length (now m) ⌝ }
+    ensures { λ r. ⌜ r ≡ four (now (m .entry)) a ⌝ }
+{
+    let mut r = [0u32; 4];
+    for i in 0..4 {
+        r[i] = m[a + i];
+    }
+    r
+}
+
+fn put_four(m: &mut [u32], a: usize, r: [u32; 4])
+    requires { ⌜ a + 4 ≤ length (now m) ⌝ }
+    ensures { λ _. ⌜ now (m .exit) ≡ sets (now (m .entry)) a r ⌝ }
+{
+    for i in 0..4 {
+        m[a + i] = r[i];
+    }
+}
+
 // Four lanes of a row, from the same lanes of the row before it (14).
 fn next_four_constants(p: [u32; 4]) -> [u32; 4]
     ensures { λ r. ⌜ r ≡ nextFourConstants lsh256 p ⌝ }
@@ -54,9 +76,9 @@ fn put_four_lanes(sc: &mut [u32], g: usize)
 {
     let first = SC_0;
     let a = g * 4;
-    let mut p = word32::four(&first, a);
+    let mut p = four(&first, a);
     for j in 0..Lsh256::STEPS {
-        word32::put_four(sc, j * 8 + a, p);
+        put_four(sc, j * 8 + a, p);
         let q = next_four_constants(p);
         p = q;
     }

@@ -8,6 +8,10 @@ use Rattle.lsh.specs.Word.{add, rotateLeft}
 use Rattle.lsh.specs.WordSize.{WordSize}
 use Rattle.lsh.specs.StepConstants.{constant}
 
+-- the four words from place a on
+unfoldable pub four : List ℕ → ℕ → List ℕ
+four m a = tabulate 4 (λ i. at m (a + i))
+
 -- lanes 4g to 4g + 3 of SC_j
 unfoldable pub fourConstants : WordSize → ℕ → ℕ → List ℕ
 fourConstants z g j = tabulate 4 (λ i. constant z j (g * 4 + i))

@@ -3,7 +3,7 @@
 use mathlib.Core.Path.{_≡_}
 use mathlib.Core.Bool.{Bool, _&&_}
 use mathlib.Core.List.{List}
-use Prim.Native.Nat.{ℕ, _+_, _*_, _/_, _≤_, _<_}
+use Prim.Native.Nat.{ℕ, _≤_, _<_}
 use native.Mathlib.Omega.{arith}
 use lib.Dec.{T, eqb, eqb→eq, ltb, ltb→lt}
 use Rattle.lsh.specs.Tabulate.{at}
@@ -38,17 +38,3 @@ sigma-permutes = permutation sigma tt tt
 pub tau-permutes : Permutation tau
 unfolding tau placeOf
 tau-permutes = permutation tau tt tt
-
--- tau keeps each group of four words together
-abbrev inGroup : ℕ → Bool
-inGroup l = eqb (at tau l / 4) (l / 4)
-
-tau-group : (l : ℕ) → l < 16 → at tau l / 4 ≡ l / 4
-unfolding tau
-tau-group l h = eqb→eq _ _ (at-allBelow 16 inGroup tt l h)
-
-pub tau-from : (g i : ℕ) → g < 4 → i < 4 → g * 4 ≤ at tau (g * 4 + i)
-tau-from g i hg hi = let e : at tau (g * 4 + i) / 4 ≡ (g * 4 + i) / 4 = tau-group (g * 4 + i) (omega arith) in omega arith
-
-pub tau-below : (g i : ℕ) → g < 4 → i < 4 → at tau (g * 4 + i) < g * 4 + 4
-tau-below g i hg hi = let e : at tau (g * 4 + i) / 4 ≡ (g * 4 + i) / 4 = tau-group (g * 4 + i) (omega arith) in omega arith

@@ -1,16 +1,16 @@
 // LSH-256: whole blocks of 128 bytes run forward and backward on a chain of 16 words of 32 bits.
 ghost use mathlib.Core.Path.{_≡_};
-ghost use Prim.Native.Nat.{_+_, _-_, _/_, _<_, _≤_};
-ghost use lib.ListN.{length};
+ghost use Prim.Native.Nat.{_+_, _*_, _/_, _<_, _≤_};
+ghost use lib.ListN.{length, take};
 ghost use lib.Seq.{sets};
 ghost use Rattle.lsh.specs.WordSize.{lsh256, chainBytes, blockBytes};
 ghost use Rattle.lsh.specs.StepConstants.{constants};
 ghost use Rattle.lsh.specs.Bytes.{wordsOf, bytesOf};
 ghost use Rattle.lsh.specs.Step.{step, unstep};
-ghost use Rattle.lsh.specs.Expansion.{expansion};
+ghost use Rattle.lsh.specs.Expansion.{nextSubMessage, expansion};
 ghost use Rattle.lsh.specs.Block.{forward, backward, forwards, backwards};
 ghost use Rattle.lsh.specs.Padding.{blocksOf};
-ghost use Rattle.engine.specs.Rows.{expandedWords, row, nextFour, withGroup};
+ghost use Rattle.engine.specs.Rows.{expandedWords, row};
 pub use constants256::Lsh256;
 
 // A chain after whole blocks, and how many there were.
@@ -31,48 +31,6 @@ fn load_block(m: &mut [u32], s: &[u8])
     }
 }
 
-// Words 4g to 4g + 3 of a sub-message, from those of the two before it (8).
-fn next_four(g: usize, q: [u32; 4], p: [u32; 4]) -> [u32; 4]
-    requires { ⌜ g < 4 ⌝ }
-    ensures { λ r. ⌜ r ≡ nextFour lsh256 g q p ⌝ }
-{
-    let tau = TAU;
-    let a = g * 4;
-    let mut r = [0u32; 4];
-    for i in 0..4 {
-        r[i] = word32::add(q[i], p[tau[a + i] - a]);
-    }
-    r
-}
-
-// Words 4g to 4g + 3 of M_2 to M_26. Each four of them are worked out from eight that are still at hand, and the compiler makes one operation of the four.
-fn expand_group(m: &mut [u32], g: usize)
-    requires { ⌜ (length (now m) ≡ expandedWords lsh256) × (g < 4) ⌝ }
-    ensures { λ _. ⌜ now (m .exit) ≡ withGroup lsh256 g (lsh256 .steps - 1) (now (m .entry)) ⌝ }
-{
-    let a = g * 4;
-    let mut p = word32::four(m, a);
-    let mut q = word32::four(m, a + 16);
-    for j in 0..Lsh256::STEPS - 1 {
-        let r = next_four(g, q, p);
-        word32::put_four(m, j * 16 + a + 32, r);
-        p = q;
-        q = r;
-    }
-}
-
-// All the sub-messages of the block s.
-fn expand_block(m: &mut [u32], s: &[u8])
-    requires { ⌜ (length (now m) ≡ expandedWords lsh256) × (length (now s) ≡ blockBytes lsh256) ⌝ }
-    ensures { λ _. ⌜ now (m .exit) ≡ expansion lsh256 (wordsOf lsh256 32 (now (s .entry))) ⌝ }
-{
-    load_block(m, s);
-    expand_group(m, 0);
-    expand_group(m, 1);
-    expand_group(m, 2);
-    expand_group(m, 3);
-}
-
 // M_j
 fn sub_message(m: &[u32], j: usize) -> [u32; 16]
     requires { ⌜ (length (now m) ≡ expandedWords lsh256) × (j ≤ lsh256 .steps) ⌝ }
@@ -84,6 +42,50 @@ fn sub_message(m: &[u32], j: usize) -> [u32; 16]
         r[l] = m[a + l];
     }
     r
+}
+
+fn put_sub_message(m: &mut [u32], j: usize, r: [u32; 16])
+    requires { ⌜ (length (now m) ≡ expandedWords lsh256) × (j ≤ lsh256 .steps) ⌝ }
+    ensures { λ _. ⌜ now (m .exit) ≡ sets (now (m .entry)) (j * 16) r ⌝ }
+{
+    let a = j * 16;
+    for l in 0..16 {
+        m[a + l] = r[l];
+    }
+}
+
+// A sub-message from the two before it, p and q (8).
+fn next_sub_message(p: [u32; 16], q: [u32; 16]) -> [u32; 16]
+    ensures { λ r. ⌜ r ≡ nextSubMessage lsh256 p q ⌝ }
+{
+    let tau = TAU;
+    let mut r = [0u32; 16];
+    for l in 0..16 {
+        r[l] = word32::add(p[l], q[tau[l]]);
+    }
+    r
+}
+
+// M_2 to M_26, from M_0 and M_1. The row before is at hand, and the one before that is read again: so the compiler works on four words at once.
+fn expand(m: &mut [u32])
+    requires { ⌜ length (now m) ≡ expandedWords lsh256 ⌝ }
+    ensures { λ _. ⌜ now (m .exit) ≡ expansion lsh256 (take 32 (now (m .entry))) ⌝ }
+{
+    let mut p = sub_message(m, 1);
+    for j in 0..Lsh256::STEPS - 1 {
+        let r = next_sub_message(p, sub_message(m, j));
+        put_sub_message(m, j + 2, r);
+        p = r;
+    }
+}
+
+// All the sub-messages of the block s.
+fn expand_block(m: &mut [u32], s: &[u8])
+    requires { ⌜ (length (now m) ≡ expandedWords lsh256) × (length (now s) ≡ blockBytes lsh256) ⌝ }
+    ensures { λ _. ⌜ now (m .exit) ≡ expansion lsh256 (wordsOf lsh256 32 (now (s .entry))) ⌝ }
+{
+    load_block(m, s);
+    expand(m);
 }
 
 // The steps j and j + 1: with an even j the amounts of both are constants to the compiler.

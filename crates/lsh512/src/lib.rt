@@ -1,16 +1,16 @@
 // LSH-512: whole blocks of 256 bytes run forward and backward on a chain of 16 words of 64 bits.
 ghost use mathlib.Core.Path.{_≡_};
-ghost use Prim.Native.Nat.{_+_, _-_, _/_, _<_, _≤_};
-ghost use lib.ListN.{length};
+ghost use Prim.Native.Nat.{_+_, _*_, _/_, _<_, _≤_};
+ghost use lib.ListN.{length, take};
 ghost use lib.Seq.{sets};
 ghost use Rattle.lsh.specs.WordSize.{lsh512, chainBytes, blockBytes};
 ghost use Rattle.lsh.specs.StepConstants.{constants};
 ghost use Rattle.lsh.specs.Bytes.{wordsOf, bytesOf};
 ghost use Rattle.lsh.specs.Step.{step, unstep};
-ghost use Rattle.lsh.specs.Expansion.{expansion};
+ghost use Rattle.lsh.specs.Expansion.{nextSubMessage, expansion};
 ghost use Rattle.lsh.specs.Block.{forward, backward, forwards, backwards};
 ghost use Rattle.lsh.specs.Padding.{blocksOf};
-ghost use Rattle.engine.specs.Rows.{expandedWords, row, nextFour, withGroup};
+ghost use Rattle.engine.specs.Rows.{expandedWords, row};
 pub use constants512::Lsh512;
 
 // A chain after whole blocks, and how many there were.
@@ -31,48 +31,6 @@ fn load_block(m: &mut [u64], s: &[u8])
     }
 }
 
-// Words 4g to 4g + 3 of a sub-message, from those of the two before it (8).
-fn next_four(g: usize, q: [u64; 4], p: [u64; 4]) -> [u64; 4]
-    requires { ⌜ g < 4 ⌝ }
-    ensures { λ r. ⌜ r ≡ nextFour lsh512 g q p ⌝ }
-{
-    let tau = TAU;
-    let a = g * 4;
-    let mut r = [0u64; 4];
-    for i in 0..4 {
-        r[i] = word64::add(q[i], p[tau[a + i] - a]);
-    }
-    r
-}
-
-// Words 4g to 4g + 3 of M_2 to M_28. Each four of them are worked out from eight that are still at hand, and the compiler makes one operation of the four.
-fn expand_group(m: &mut [u64], g: usize)
-    requires { ⌜ (length (now m) ≡ expandedWords lsh512) × (g < 4) ⌝ }
-    ensures { λ _. ⌜ now (m .exit) ≡ withGroup lsh512 g (lsh512 .steps - 1) (now (m .entry)) ⌝ }
-{
-    let a = g * 4;
-    let mut p = word64::four(m, a);
-    let mut q = word64::four(m, a + 16);
-    for j in 0..Lsh512::STEPS - 1 {
-        let r = next_four(g, q, p);
-        word64::put_four(m, j * 16 + a + 32, r);
-        p = q;
-        q = r;
-    }
-}
-
-// All the sub-messages of the block s.
-fn expand_block(m: &mut [u64], s: &[u8])
-    requires { ⌜ (length (now m) ≡ expandedWords lsh512) × (length (now s) ≡ blockBytes lsh512) ⌝ }
-    ensures { λ _. ⌜ now (m .exit) ≡ expansion lsh512 (wordsOf lsh512 32 (now (s .entry))) ⌝ }
-{
-    load_block(m, s);
-    expand_group(m, 0);
-    expand_group(m, 1);
-    expand_group(m, 2);
-    expand_group(m, 3);
-}
-
 // M_j
 fn sub_message(m: &[u64], j: usize) -> [u64; 16]
     requires { ⌜ (length (now m) ≡ expandedWords lsh512) × (j ≤ lsh512 .steps) ⌝ }
@@ -84,6 +42,52 @@ fn sub_message(m: &[u64], j: usize) -> [u64; 16]
         r[l] = m[a + l];
     }
     r
+}
+
+fn put_sub_message(m: &mut [u64], j: usize, r: [u64; 16])
+    requires { ⌜ (length (now m) ≡ expandedWords lsh512) × (j ≤ lsh512 .steps) ⌝ }
+    ensures { λ _. ⌜ now (m .exit) ≡ sets (now (m .entry)) (j * 16) r ⌝ }
+{
+    let a = j * 16;
+    for l in 0..16 {
+        m[a + l] = r[l];
+    }
+}
+
+// A sub-message from the two before it, p and q (8).
+fn next_sub_message(p: [u64; 16], q: [u64; 16]) -> [u64; 16]
+    ensures { λ r. ⌜ r ≡ nextSubMessage lsh512 p q ⌝ }
+{
+    let tau = TAU;
+    let mut r = [0u64; 16];
+    for l in 0..16 {
+        r[l] = word64::add(p[l], q[tau[l]]);
+    }
+    r
+}
+
+// M_2 to M_28, from M_0 and M_1. The two rows before are at hand: so the compiler works on two words at once.
+fn expand(m: &mut [u64])
+    requires { ⌜ length (now m) ≡ expandedWords lsh512 ⌝ }
+    ensures { λ _. ⌜ now (m .exit) ≡ expansion lsh512 (take 32 (now (m .entry))) ⌝ }
+{
+    let mut q = sub_message(m, 0);
+    let mut p = sub_message(m, 1);
+    for j in 0..Lsh512::STEPS - 1 {
+        let r = next_sub_message(p, q);
+        put_sub_message(m, j + 2, r);
+        q = p;
+        p = r;
+    }
+}
+
+// All the sub-messages of the block s.
+fn expand_block(m: &mut [u64], s: &[u8])
+    requires { ⌜ (length (now m) ≡ expandedWords lsh512) × (length (now s) ≡ blockBytes lsh512) ⌝ }
+    ensures { λ _. ⌜ now (m .exit) ≡ expansion lsh512 (wordsOf lsh512 32 (now (s .entry))) ⌝ }
+{
+    load_block(m, s);
+    expand(m);
 }
 
 // The steps j and j + 1: with an even j the amounts of both are constants to the compiler.

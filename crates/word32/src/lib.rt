@@ -6,7 +6,6 @@ ghost use lib.Seq.{sets};
 ghost use Rattle.lsh.specs.Tabulate.{tabulate};
 ghost use Rattle.lsh.specs.Word.{add, subtract, rotateLeft, rotateRight, xor};
 ghost use Rattle.lsh.specs.Bytes.{wordAt, byteAt};
-ghost use Rattle.engine.specs.Rows.{four};
 
 pub fn add(x: u32, y: u32) -> u32
     ensures { λ r. ⌜ r ≡ add 32 x y ⌝ }
@@ -85,25 +84,4 @@ pub fn store(d: &mut [u8], a: usize, x: u32)
     d[b] = byte(x, 1);
     d[c] = byte(x, 2);
     d[e] = byte(x, 3);
-}
-
-// Four words from place a on.
-pub fn four(m: &[u32], a: usize) -> [u32; 4]
-    requires { ⌜ a + 4 ≤ length (now m) ⌝ }
-    ensures { λ r. ⌜ r ≡ four (now (m .entry)) a ⌝ }
-{
-    let mut r = [0u32; 4];
-    for i in 0..4 {
-        r[i] = m[a + i];
-    }
-    r
-}
-
-pub fn put_four(m: &mut [u32], a: usize, r: [u32; 4])
-    requires { ⌜ a + 4 ≤ length (now m) ⌝ }
-    ensures { λ _. ⌜ now (m .exit) ≡ sets (now (m .entry)) a r ⌝ }
-{
-    for i in 0..4 {
-        m[a + i] = r[i];
-    }
 }

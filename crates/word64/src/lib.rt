@@ -6,7 +6,6 @@ ghost use lib.Seq.{sets};
 ghost use Rattle.lsh.specs.Tabulate.{tabulate};
 ghost use Rattle.lsh.specs.Word.{add, subtract, rotateLeft, rotateRight, xor};
 ghost use Rattle.lsh.specs.Bytes.{wordAt, byteAt};
-ghost use Rattle.engine.specs.Rows.{four};
 
 pub fn add(x: u64, y: u64) -> u64
     ensures { λ r. ⌜ r ≡ add 64 x y ⌝ }
@@ -98,25 +97,4 @@ pub fn store(d: &mut [u8], a: usize, x: u64)
     d[g] = byte(x, 5);
     d[h] = byte(x, 6);
     d[i] = byte(x, 7);
-}
-
-// Four words from place a on.
-pub fn four(m: &[u64], a: usize) -> [u64; 4]
-    requires { ⌜ a + 4 ≤ length (now m) ⌝ }
-    ensures { λ r. ⌜ r ≡ four (now (m .entry)) a ⌝ }
-{
-    let mut r = [0u64; 4];
-    for i in 0..4 {
-        r[i] = m[a + i];
-    }
-    r
-}
-
-pub fn put_four(m: &mut [u64], a: usize, r: [u64; 4])
-    requires { ⌜ a + 4 ≤ length (now m) ⌝ }
-    ensures { λ _. ⌜ now (m .exit) ≡ sets (now (m .entry)) a r ⌝ }
-{
-    for i in 0..4 {
-        m[a + i] = r[i];
-    }
 }

@@ -1,38 +1,24 @@
--- `lsh256::expand_block` meets its contract: the block's words, and then its four groups. Assumes nothing.
-use mathlib.Core.Path.{_≡_, _∙_}
+-- `lsh256::expand_block` meets its contract. Assumes nothing.
+use mathlib.Core.Path.{_≡_, ap, _∙_}
 use mathlib.Core.List.{List}
 use Prim.Native.Nat.{ℕ}
 use native.Mathlib.Omega.{arith}
 use borrow.Author.Needs.{needs}
-use lib.ListN.{length}
+use lib.ListN.{take}
 use Rattle.lsh.specs.WordSize.{lsh256, blockBytes}
-use Rattle.lsh.specs.Bytes.{wordsOf}
+use Rattle.lsh.specs.Expansion.{expansion}
 use Rattle.lsh.proofs.Bytes.{length-words}
 use Rattle.engine.specs.Rows.{expandedWords}
-use Rattle.engine.proofs.Rows.{expanding-none, expanding-more, expanding-all}
+use Rattle.engine.proofs.Rows.{front}
 use Rattle.lsh256.proofs.expand_block.Statement.{statement}
 use Rattle.lsh256.proofs.expand_block.Tie as tie
 
-returns : tie.Need-returns
-unfolding lsh256 blockBytes expandedWords
-returns c =
-    let b : List ℕ = wordsOf lsh256 32 (c .before .before .before .before .before .before .before .before .before .before .before .before .before .before .before .before .before .before .before .before .before .before .args .s .now) in
-    let l₀ : length (c .before .before .before .before .before .before .before .before .before .before .before .before .before .before .before .before .before .before .before .before .before .before .args .m .now) ≡ expandedWords lsh256 = c .before .before .before .before .before .before .before .before .before .before .before .before .before .before .before .before .before .before .before .before .before .before .pre .0 in
-    let l₁ : length (c .before .before .before .before .before .before .before .before .before .before .before .before .before .before .before .before .before .before .load-block .last .0) ≡ expandedWords lsh256 = c .before .before .before .before .before .before .before .before .before .before .before .before .before .before .before .before .before .before .load-block .kept .0 ∙ l₀ in
-    let l₂ : length (c .before .before .before .before .before .before .before .before .before .before .before .before .before .before .expand-group .last .0) ≡ expandedWords lsh256 = c .before .before .before .before .before .before .before .before .before .before .before .before .before .before .expand-group .kept .0 ∙ l₁ in
-    let l₃ : length (c .before .before .before .before .before .before .before .before .before .before .expand-group2 .last .0) ≡ expandedWords lsh256 = c .before .before .before .before .before .before .before .before .before .before .expand-group2 .kept .0 ∙ l₂ in
-    let l₄ : length (c .before .before .before .before .before .before .expand-group3 .last .0) ≡ expandedWords lsh256 = c .before .before .before .before .before .before .expand-group3 .kept .0 ∙ l₃ in
-    let l₅ : length (c .before .before .expand-group4 .last .0) ≡ expandedWords lsh256 = c .before .before .expand-group4 .kept .0 ∙ l₄ in
-    expanding-all lsh256 b _ (expanding-more lsh256 b _ _ 3 (expanding-more lsh256 b _ _ 2 (expanding-more lsh256 b _ _ 1 (expanding-more lsh256 b _ _ 0 (expanding-none lsh256 b _ _ (c .before .before .before .before .before .before .before .before .before .before .before .before .before .before .before .before .before .before .load-block .ensures) (length-words lsh256 32 _) (omega arith)) (omega arith) (omega arith) l₁ (c .before .before .before .before .before .before .before .before .before .before .before .before .before .before .expand-group .ensures)) (omega arith) (omega arith) l₂ (c .before .before .before .before .before .before .before .before .before .before .expand-group2 .ensures)) (omega arith) (omega arith) l₃ (c .before .before .before .before .before .before .expand-group3 .ensures)) (omega arith) (omega arith) l₄ (c .before .before .expand-group4 .ensures)) l₅
-
 pub expand-block-spec : {M : Type 1} → statement M
+unfolding lsh256 blockBytes expandedWords
 expand-block-spec =
     tie.close
     (tie.spec
     (λ c κs. search needs)
     (λ c κs. search needs)
-    (λ c κs. search needs)
-    (λ c κs. search needs)
-    (λ c κs. search needs)
     (λ c. search needs)
-    returns)
+    (λ c. c .before .before .expand .ensures ∙ ap (λ (m : List ℕ). expansion lsh256 (take 32 m)) (c .before .before .before .before .before .before .load-block .ensures) ∙ ap (expansion lsh256) (front _ _ (length-words lsh256 32 _) (omega arith))))

@@ -1,0 +1,53 @@
+-- `lsh256::expand` meets its contract. Assumes nothing.
+use mathlib.Core.Path.{_≡_, sym, _∙_}
+use Prim.Native.Nat.{_+_, _-_}
+use native.Mathlib.Omega.{arith}
+use borrow.Author.Needs.{needs}
+use lib.ListN.{length, take}
+use Rattle.lsh.specs.WordSize.{lsh256}
+use Rattle.lsh.specs.Expansion.{subMessage}
+use Rattle.engine.specs.Rows.{expandedWords}
+use Rattle.engine.proofs.Rows.{Expanding, sub-next, expanding-none, expanding-more, expanding-all}
+use Rattle.lsh256.proofs.expand.Statement.{statement}
+use Rattle.lsh256.proofs.expand.Tie as tie
+
+abbrev Inv-loop : tie.InvT-loop
+Inv-loop m₀ p₀ j₀ m p j = Expanding lsh256 (take 32 m₀) m (j + 1) × (p ≡ subMessage lsh256 (take 32 m₀) (j + 1)) × (length m₀ ≡ expandedWords lsh256)
+
+abbrev μ-loop : tie.MeasureT-loop
+μ-loop m₀ p₀ j₀ m p j = lsh256 .steps - 1 - j
+
+-- before the first turn M_0 and M_1 stand in their rows
+holds : tie.Need-loop-holds Inv-loop μ-loop
+unfolding lsh256 expandedWords
+holds c =
+    let given = c .before .before .before .pre in
+    let first = expanding-none lsh256 (c .before .before .before .args .m .now) given (omega arith) in
+    (first, c .sub-message .ensures ∙ first .rows 1 (omega arith), given)
+
+-- a turn puts the next sub-message into its row
+again : tie.Need-loop-again Inv-loop μ-loop
+unfolding lsh256 expandedWords
+again c =
+    let h = c .before .before .before .before .before .before .before .before .loop .inv in
+    let next = sub-next lsh256 _ (c .before .before .before .before .before .before .before .before .loop .j) (c .before .before .before .before .next-sub-message .ensures) (h .1) (c .before .before .before .before .before .sub-message2 .ensures ∙ h .0 .rows _ (omega arith)) in
+    (expanding-more _ _ _ (h .0) (omega arith) next (c .before .before .put-sub-message .ensures), next, h .2)
+
+pub expand-spec : {M : Type 1} → statement M
+unfolding lsh256 expandedWords
+expand-spec =
+    tie.close
+    (tie.spec
+    Inv-loop
+    μ-loop
+    (λ c κs. (c .before .before .pre, omega arith))
+    holds
+    (λ c κs. (c .before .before .loop .inv .0 .len, omega arith))
+    (λ c κs. search needs)
+    (λ c. omega arith)
+    (λ c κs. (c .before .before .before .before .before .loop .inv .0 .len, omega arith))
+    (λ c. omega arith)
+    (λ c. omega arith)
+    again
+    (λ c. c .before .loop .inv .0 .len ∙ sym (c .before .loop .inv .2))
+    (λ c. expanding-all (c .before .loop .inv .0) (omega arith)))
