@@ -12,6 +12,7 @@ fn main() {
     assert!(archive.exists(), "there is no {}: `rt staticlib lsh_kiosk` writes it", archive.display());
     println!("cargo::rerun-if-env-changed=LSH_ARCHIVE_DIR");
     println!("cargo::rerun-if-changed={}", archive.display());
+    println!("cargo::rustc-env=LSH_ARCHIVE={}", archive.display()); // for the test that looks into it
     println!("cargo::rustc-link-search=native={}", folder.display());
     println!("cargo::rustc-link-lib=static=lsh_kiosk");
     println!("cargo::metadata=archives={}", folder.display());

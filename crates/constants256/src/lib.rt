@@ -19,7 +19,7 @@ impl Lsh256 {
     // Ns (5).
     pub const STEPS: usize = 26;
 
-    // Words of the table of step constants, and of the sub-messages M_0 to M_26.
+    // Words of the step constants, and of the sub-messages M_0 to M_26.
     pub const CONSTANTS: usize = 8 * Lsh256::STEPS;
 
     pub const EXPANDED: usize = 16 * (Lsh256::STEPS + 1);
@@ -69,7 +69,8 @@ fn next_four_constants(p: [u32; 4]) -> [u32; 4]
     r
 }
 
-// Puts lanes 4g to 4g + 3 of every row into the table, row after row.
+// Puts lanes 4g to 4g + 3 of every row into the table, row after row. Four lanes stay in registers. The loop serves either g and is too long
+// for the compiler to write out for each; one over a single lane it worked out itself, and stored what it found.
 fn put_four_lanes(sc: &mut [u32], g: usize)
     requires { ⌜ (length (now sc) ≡ lsh256 .steps * 8) × (g < 2) ⌝ }
     ensures { λ _. ⌜ now (sc .exit) ≡ withFourConstants lsh256 g (lsh256 .steps) (now (sc .entry)) ⌝ }
@@ -89,7 +90,7 @@ fn room() -> [u32; Lsh256::CONSTANTS] {
     [0u32; Lsh256::CONSTANTS]
 }
 
-// The table of all of them, SC_j[l] at 8j + l. A run of blocks makes it once, on its stack, and lends it on.
+// All of them, SC_j[l] at 8j + l. A run of blocks works them out once, on its stack, and lends them on.
 pub fn step_constants() -> [u32; Lsh256::CONSTANTS]
     ensures { λ r. ⌜ r ≡ constants lsh256 ⌝ }
 {

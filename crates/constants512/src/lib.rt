@@ -19,7 +19,7 @@ impl Lsh512 {
     // Ns (5).
     pub const STEPS: usize = 28;
 
-    // Words of the table of step constants, and of the sub-messages M_0 to M_28.
+    // Words of the step constants, and of the sub-messages M_0 to M_28.
     pub const CONSTANTS: usize = 8 * Lsh512::STEPS;
 
     pub const EXPANDED: usize = 16 * (Lsh512::STEPS + 1);
@@ -69,7 +69,8 @@ fn next_four_constants(p: [u64; 4]) -> [u64; 4]
     r
 }
 
-// Puts lanes 4g to 4g + 3 of every row into the table, row after row.
+// Puts lanes 4g to 4g + 3 of every row into the table, row after row. Four lanes stay in registers. The loop serves either g and is too long
+// for the compiler to write out for each; one over a single lane it worked out itself, and stored what it found.
 fn put_four_lanes(sc: &mut [u64], g: usize)
     requires { ⌜ (length (now sc) ≡ lsh512 .steps * 8) × (g < 2) ⌝ }
     ensures { λ _. ⌜ now (sc .exit) ≡ withFourConstants lsh512 g (lsh512 .steps) (now (sc .entry)) ⌝ }
@@ -89,7 +90,7 @@ fn room() -> [u64; Lsh512::CONSTANTS] {
     [0u64; Lsh512::CONSTANTS]
 }
 
-// The table of all of them, SC_j[l] at 8j + l. A run of blocks makes it once, on its stack, and lends it on.
+// All of them, SC_j[l] at 8j + l. A run of blocks works them out once, on its stack, and lends them on.
 pub fn step_constants() -> [u64; Lsh512::CONSTANTS]
     ensures { λ r. ⌜ r ≡ constants lsh512 ⌝ }
 {

@@ -182,7 +182,7 @@ pub fn forward(w: u64, t: [u64; 16], s: &[u8]) -> Run
     requires { ⌜ (isWordSize w ≡ true) × Chain (sizeOf w) t ⌝ }
     ensures { λ r. ⌜ (r .chain ≡ forwards (sizeOf w) (blocksOf (sizeOf w) (now (s .entry))) t) × (r .count ≡ length (now (s .entry)) / blockBytes (sizeOf w)) ⌝ }
 {
-    // An engine sets up its tables first, which a piece without a whole block need not pay for.
+    // An engine works out its step constants first, which a piece without a whole block need not pay for.
     if s.len() < block_bytes(w) {
         return Run { chain: t, count: 0 };
     }

@@ -6,7 +6,7 @@
 mod replay;
 pub mod roll;
 
-pub use replay::{hex, replay, Script};
+pub use replay::{hex, program, replay, Script};
 
 /// What a call answers.
 pub const ACCEPTED: u32 = 0;

@@ -8,7 +8,7 @@ use std::thread;
 
 /// Runs the program on a script and returns the lines that it prints.
 pub fn replay(script: String) -> Vec<String> {
-    let mut program = Command::new(program_path())
+    let mut program = Command::new(program("replay"))
         .stdin(Stdio::piped())
         .stdout(Stdio::piped())
         .spawn()
@@ -46,12 +46,13 @@ impl Script {
     }
 }
 
-fn program_path() -> PathBuf {
+/// Where a program of the module is.
+pub fn program(name: &str) -> PathBuf {
     match env::var_os("LSH_PROGRAM_DIR") {
         Some(given) => PathBuf::from(given),
         None => PathBuf::from(env!("CARGO_MANIFEST_DIR")).join("../../target/bin"),
     }
-    .join("replay")
+    .join(name)
 }
 
 /// Bytes as a script has them.
