@@ -28,15 +28,15 @@ at-constant z sc e j l hj hl =
     ∙ ap₂ (constant z) q r
 
 -- the loop over the rows: p has the four lanes of the next one
-pub record Lined (z : WordSize) (g n : ℕ) (sc₀ sc p : List ℕ) (j : ℕ) : Type 0 where
+pub record WorkedOut (z : WordSize) (g n : ℕ) (sc₀ sc p : List ℕ) (j : ℕ) : Type 0 where
   pub upTo : j ≤ n
   pub len : length sc ≡ length sc₀
   pub rows : sc ≡ withFourConstants z g j sc₀
   pub next : p ≡ fourConstants z g j
 
-pub lined-none : (z : WordSize) (g n : ℕ) (sc p : List ℕ) → p ≡ four (z .firstConstants) (g * 4) → Lined z g n sc sc p 0
+pub worked-none : (z : WordSize) (g n : ℕ) (sc p : List ℕ) → p ≡ four (z .firstConstants) (g * 4) → WorkedOut z g n sc sc p 0
 unfolding withFourConstants fourConstants constant four
-lined-none z g n sc p e = record { upTo = zero-le; len = refl; rows = refl; next = e }
+worked-none z g n sc p e = record { upTo = zero-le; len = refl; rows = refl; next = e }
 
 at-four : (z : WordSize) (g j i : ℕ) → i < 4 → at (fourConstants z g j) i ≡ constant z j (g * 4 + i)
 unfolding fourConstants
@@ -48,10 +48,10 @@ unfolding nextFourConstants fourConstants constant
 four-next z g j =
     tabulate-cong 4 _ _ (λ i hi. ap (λ (c : ℕ). add (z .bits) c (rotateLeft (z .bits) 8 c)) (at-four z g j i hi))
 
-pub lined-more : {z : WordSize} {g n : ℕ} {sc₀ sc p : List ℕ} {j : ℕ} (o q : List ℕ) → Lined z g n sc₀ sc p j → j < n
-    → o ≡ sets sc (j * 8 + g * 4) p → q ≡ nextFourConstants z p → Lined z g n sc₀ o q (j + 1)
+pub worked-more : {z : WordSize} {g n : ℕ} {sc₀ sc p : List ℕ} {j : ℕ} (o q : List ℕ) → WorkedOut z g n sc₀ sc p j → j < n
+    → o ≡ sets sc (j * 8 + g * 4) p → q ≡ nextFourConstants z p → WorkedOut z g n sc₀ o q (j + 1)
 unfolding withFourConstants
-lined-more {z} {g} {n} {sc₀} {sc} {p} {j} o q h lt eo eq =
+worked-more {z} {g} {n} {sc₀} {sc} {p} {j} o q h lt eo eq =
     record {
       upTo = omega arith;
       len = ap length eo ∙ length-sets sc (j * 8 + g * 4) p ∙ h .len;
@@ -60,8 +60,8 @@ lined-more {z} {g} {n} {sc₀} {sc} {p} {j} o q h lt eo eq =
       next = eq ∙ ap (nextFourConstants z) (h .next) ∙ four-next z g j ∙ ap (fourConstants z g) (sym (add-one j));
     }
 
-pub lined-all : {z : WordSize} {g n : ℕ} {sc₀ sc p : List ℕ} {j : ℕ} → Lined z g n sc₀ sc p j → n ≤ j → sc ≡ withFourConstants z g n sc₀
-lined-all {z} {g} {n} {sc₀} {sc} {p} {j} h le = h .rows ∙ ap (λ (k : ℕ). withFourConstants z g k sc₀) (le-antisymm (h .upTo) le)
+pub worked-all : {z : WordSize} {g n : ℕ} {sc₀ sc p : List ℕ} {j : ℕ} → WorkedOut z g n sc₀ sc p j → n ≤ j → sc ≡ withFourConstants z g n sc₀
+worked-all {z} {g} {n} {sc₀} {sc} {p} {j} h le = h .rows ∙ ap (λ (k : ℕ). withFourConstants z g k sc₀) (le-antisymm (h .upTo) le)
 
 -- what stands in the table then
 length-with : (z : WordSize) (g n : ℕ) (sc : List ℕ) → length (withFourConstants z g n sc) ≡ length sc

@@ -1,12 +1,12 @@
 -- The array of the sub-messages, as it is worked out row by row.
 -- Assumes nothing.
-use mathlib.Core.Path.{_≡_, refl, sym, ap, ap₂, _∙_, subst}
+use mathlib.Core.Path.{_≡_, sym, ap, ap₂, _∙_}
 use mathlib.Core.List.{List}
-use Prim.Native.Nat.{ℕ, zero, suc, _+_, _-_, _*_, _/_, _%_, _≤_, _<_}
+use Prim.Native.Nat.{ℕ, zero, suc, _+_, _*_, _/_, _%_, _≤_, _<_}
 use native.Mathlib.Nat.{zero-add}
 use native.Mathlib.Decide.{ℕ-discrete}
 use native.Mathlib.Omega.{arith}
-use lib.ListN.{length, take, drop, length-drop}
+use lib.ListN.{length, take, length-drop}
 use lib.Seq.{sets, length-sets, length-take-le, ext-getD, getD-take, getD-drop}
 use Rattle.lsh.specs.Tabulate.{at, tabulate}
 use Rattle.lsh.specs.Word.{add}
@@ -94,8 +94,8 @@ expanding-all {z} {b} {m} {j} h le =
     ∙ ap (at m) e)
 
 -- a block whose words were put before the rest
-pub front : (m b : List ℕ) → length b ≡ 32 → 32 ≤ length m → take 32 (sets m 0 b) ≡ b
-front m b len room =
+pub take-stored : (m b : List ℕ) → length b ≡ 32 → 32 ≤ length m → take 32 (sets m 0 b) ≡ b
+take-stored m b len room =
     ext-getD 0 (take 32 s) b (long ∙ sym len)
     λ k lt.
     let hk : k < 32 = rw long at lt in

@@ -1,5 +1,5 @@
 -- `lsh512::expand_block` meets its contract. Assumes nothing.
-use mathlib.Core.Path.{_≡_, ap, _∙_}
+use mathlib.Core.Path.{ap, _∙_}
 use mathlib.Core.List.{List}
 use Prim.Native.Nat.{ℕ}
 use native.Mathlib.Omega.{arith}
@@ -9,7 +9,7 @@ use Rattle.lsh.specs.WordSize.{lsh512, blockBytes}
 use Rattle.lsh.specs.Expansion.{expansion}
 use Rattle.lsh.proofs.Bytes.{length-words}
 use Rattle.engine.specs.Rows.{expandedWords}
-use Rattle.engine.proofs.Rows.{front}
+use Rattle.engine.proofs.Rows.{take-stored}
 use Rattle.lsh512.proofs.expand_block.Statement.{statement}
 use Rattle.lsh512.proofs.expand_block.Tie as tie
 
@@ -21,4 +21,4 @@ expand-block-spec =
     (λ c κs. search needs)
     (λ c κs. search needs)
     (λ c. search needs)
-    (λ c. c .before .before .expand .ensures ∙ ap (λ (m : List ℕ). expansion lsh512 (take 32 m)) (c .before .before .before .before .before .before .load-block .ensures) ∙ ap (expansion lsh512) (front _ _ (length-words lsh512 32 _) (omega arith))))
+    (λ c. c .before .before .expand .ensures ∙ ap (λ (m : List ℕ). expansion lsh512 (take 32 m)) (c .before .before .before .before .before .before .load-block .ensures) ∙ ap (expansion lsh512) (take-stored _ _ (length-words lsh512 32 _) (omega arith))))
