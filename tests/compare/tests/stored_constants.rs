@@ -2,7 +2,7 @@
 //! the archive or in the programs: neither as a table, nor in the code of the compiler, which could work them out too.
 //!
 //! A word of 32 bits may stand somewhere by chance. In files of this size that happens to one of the 200 constants in
-//! about one of a hundred builds, and the message then says which bytes to look at.
+//! about one of two hundred builds, and the message then says which bytes to look at.
 
 use compare::program;
 use lsh_ref::Word;
