@@ -122,7 +122,7 @@ module _ (r : Record) (piece : List ℕ) where
           }
 
       -- and further whole blocks go on from the chain there
-      pub goes-on : (p : List ℕ) → appended (so-far at) p .chain ≡ forwards Z (blocksOf Z p) (so-far at .chain)
+      goes-on : (p : List ℕ) → appended (so-far at) p .chain ≡ forwards Z (blocksOf Z p) (so-far at .chain)
       unfolding appended
       goes-on p =
           ap (λ (s : List ℕ). forwards Z (blocksOf Z (s ++ p)) (so-far at .chain)) (held-after r long (take at piece) ∙ none-held)
@@ -182,13 +182,13 @@ module _ (r : Record) (piece : List ℕ) where
           more : k + 1 ≤ have (length piece)
           more = omega (arith, have-next, no-fewer (r .w) (r .total + (at + size)) (r .total + length piece) (omega arith))
 
-          pub part-room : length (links Z now) < slotCount Z (length now)
+          part-room : length (links Z now) < slotCount Z (length now)
           part-room = rw (p .same ∙ long-from) (omega (arith, p .many, more, room))
 
           abbrev t : List ℕ
           t = so-far (at + size) .chain
 
-          pub t-chain : Chain Z t
+          t-chain : Chain Z t
           t-chain = appended-chain r ok words long (take (at + size) piece)
 
           after : (left : ℕ) → have (length piece) - k ≡ suc left → laidAfter Z (checkpointChain r piece) (suc k) left (laid Z t now) ≡ due-after start from
@@ -221,7 +221,7 @@ module _ (r : Record) (piece : List ℕ) where
           place-next = next ∙ ap (λ (n : ℕ). n * Q) (sym have-next)
 
         -- no further one is reached
-        pub stage-end : (size : ℕ) → length piece < at + size → r .total + (at + size) ≡ (k + 1) * Q → now ≡ due-after start from
+        stage-end : (size : ℕ) → length piece < at + size → r .total + (at + size) ≡ (k + 1) * Q → now ≡ due-after start from
         stage-end size less next =
             let none-left : have (length piece) - k ≡ 0 =
             omega (

@@ -10,7 +10,7 @@ use native.Mathlib.Decide.{ℕ-discrete, decLt}
 use native.Mathlib.Omega.{arith}
 use lib.ListN.{length}
 use lib.Seq.{sets, length-sets}
-use Rattle.lsh.specs.Tabulate.{at, tabulate}
+use Rattle.lsh.specs.Tabulate.{at}
 use Rattle.lsh.specs.Word.{add, rotateLeft}
 use Rattle.lsh.specs.WordSize.{WordSize}
 use Rattle.lsh.specs.StepConstants.{constant, constants}

@@ -6,8 +6,8 @@ use Prim.Native.Nat.{ℕ, zero, suc, _+_, _*_, _/_, _%_, _≤_, _<_}
 use native.Mathlib.Nat.{zero-add}
 use native.Mathlib.Decide.{ℕ-discrete}
 use native.Mathlib.Omega.{arith}
-use lib.ListN.{length, take, length-drop}
-use lib.Seq.{sets, length-sets, length-take-le, ext-getD, getD-take, getD-drop}
+use lib.ListN.{length, take, drop, length-drop}
+use lib.Seq.{sets, length-sets, sets-eq, take-append-seam, length-take-le, getD-take, getD-drop}
 use Rattle.lsh.specs.Tabulate.{at, tabulate}
 use Rattle.lsh.specs.Word.{add}
 use Rattle.lsh.specs.WordSize.{WordSize, tau}
@@ -32,16 +32,16 @@ sub-next z b {p} {q} {r} j er ep eq =
     let two : j + 1 + 1 ≡ suc (suc j) = omega arith in
     er ∙ ap₂ (nextSubMessage z) (ep ∙ ap (subMessage z b) one) eq ∙ ap (subMessage z b) (sym two)
 
--- M_0 to M_j stand in m
-pub record Expanding (z : WordSize) (b m : List ℕ) (j : ℕ) : Type 0 where
+-- M_0 to M_j of the block b stand in m
+pub record Expanded (z : WordSize) (b m : List ℕ) (j : ℕ) : Type 0 where
   pub block : length b ≡ 32
   pub len : length m ≡ expandedWords z
   pub rows : (i : ℕ) → i ≤ j → row m i ≡ subMessage z b i
 
 -- M_0 and M_1 are the first 32 words (7)
-pub expanding-none : (z : WordSize) (m : List ℕ) → length m ≡ expandedWords z → 0 < z .steps → Expanding z (take 32 m) m 1
+pub expanded-none : (z : WordSize) (m : List ℕ) → length m ≡ expandedWords z → 0 < z .steps → Expanded z (take 32 m) m 1
 unfolding expandedWords row subMessage subMessages
-expanding-none z m len pos = record { block = long; len = len; rows = go }
+expanded-none z m len pos = record { block = long; len = len; rows = go }
   where
     long : length (take 32 m) ≡ 32
     long = length-take-le 32 m (omega arith)
@@ -57,10 +57,10 @@ expanding-none z m len pos = record { block = long; len = len; rows = go }
         tabulate-ext 16 _ _ (length-sub z (take 32 m) 1 long) (λ l hl. word (16 + l) (omega arith) ∙ sym (getD-drop 16 (take 32 m) l 0))
     go (suc (suc i)) le = absurd (omega arith)
 
-pub expanding-more : {z : WordSize} {b m : List ℕ} (j : ℕ) (o r : List ℕ) → Expanding z b m (j + 1) → j + 2 ≤ z .steps
-    → r ≡ subMessage z b (j + 1 + 1) → o ≡ sets m ((j + 2) * 16) r → Expanding z b o (j + 1 + 1)
+pub expanded-more : {z : WordSize} {b m : List ℕ} (j : ℕ) (o r : List ℕ) → Expanded z b m (j + 1) → j + 2 ≤ z .steps
+    → r ≡ subMessage z b (j + 1 + 1) → o ≡ sets m ((j + 2) * 16) r → Expanded z b o (j + 1 + 1)
 unfolding expandedWords row
-expanding-more {z} {b} {m} j o r h le er eo =
+expanded-more {z} {b} {m} j o r h le er eo =
     record {
       block = h .block;
       len = ap length eo ∙ length-sets m ((j + 2) * 16) r ∙ h .len;
@@ -83,9 +83,9 @@ expanding-more {z} {b} {m} j o r h le er eo =
         (λ l hl. ap (λ (s : List ℕ). at s (i * 16 + l)) eo ∙ at-sets-before m ((j + 2) * 16) r (i * 16 + l) (omega arith))
         ∙ h .rows i (omega arith)
 
-pub expanding-all : {z : WordSize} {b m : List ℕ} {j : ℕ} → Expanding z b m j → z .steps ≤ j → m ≡ expansion z b
+pub expanded-all : {z : WordSize} {b m : List ℕ} {j : ℕ} → Expanded z b m j → z .steps ≤ j → m ≡ expansion z b
 unfolding expandedWords expansion row
-expanding-all {z} {b} {m} {j} h le =
+expanded-all {z} {b} {m} {j} h le =
     sym (tabulate-ext (16 * (z .steps + 1)) _ m (h .len)
     λ q hq.
     let e : q / 16 * 16 + q % 16 ≡ q = omega arith in
@@ -95,33 +95,24 @@ expanding-all {z} {b} {m} {j} h le =
 
 -- a block whose words were put before the rest
 pub take-stored : (m b : List ℕ) → length b ≡ 32 → 32 ≤ length m → take 32 (sets m 0 b) ≡ b
-take-stored m b len room =
-    ext-getD 0 (take 32 s) b (long ∙ sym len)
-    λ k lt.
-    let hk : k < 32 = rw long at lt in
-    getD-take 32 s k 0 hk ∙ ap (at s) (sym (zero-add k)) ∙ at-sets-in m 0 b k (rw len room) (rw len hk)
+take-stored m b len room = ap₂ take (sym len) (sets-eq b m 0 (rw len room)) ∙ take-append-seam b (drop (0 + length b) m)
+
+-- the rows of an expansion
+pub expanded : (z : WordSize) (b m : List ℕ) → m ≡ expansion z b → length b ≡ 32 → Expanded z b m (z .steps)
+unfolding expandedWords row expansion
+expanded z b m is len =
+    record {
+      block = len;
+      len = ap length is ∙ length-tabulate (16 * (z .steps + 1)) word;
+      rows = λ j le.
+          tabulate-ext 16 _ (subMessage z b j) (length-sub z b j len)
+          λ l hl.
+          let q : (j * 16 + l) / 16 ≡ j = omega arith in
+          let r : (j * 16 + l) % 16 ≡ l = omega arith in
+          ap (λ (s : List ℕ). at s (j * 16 + l)) is
+          ∙ at-tabulate (16 * (z .steps + 1)) word (j * 16 + l) (omega arith)
+          ∙ ap₂ (λ (x y : ℕ). at (subMessage z b x) y) q r;
+    }
   where
-    s : List ℕ
-    s = sets m 0 b
-
-    long : length (take 32 s) ≡ 32
-    long = length-take-le 32 s (rw (length-sets m 0 b) room)
-
--- a row of the expanded block
-expansion-row : (z : WordSize) (b m : List ℕ) (j : ℕ) → m ≡ expansion z b → length b ≡ 32 → j ≤ z .steps → row m j ≡ subMessage z b j
-unfolding row expansion
-expansion-row z b m j is len le =
-    tabulate-ext 16 _ (subMessage z b j) (length-sub z b j len)
-    λ l hl.
-    let q : (j * 16 + l) / 16 ≡ j = omega arith in
-    let r : (j * 16 + l) % 16 ≡ l = omega arith in
-    ap (λ (s : List ℕ). at s (j * 16 + l)) is
-    ∙ at-tabulate (16 * (z .steps + 1)) (λ k. at (subMessage z b (k / 16)) (k % 16)) (j * 16 + l) (omega arith)
-    ∙ ap₂ (λ (x y : ℕ). at (subMessage z b x) y) q r
-
--- the rows of m are the sub-messages of the block b
-pub record Expanded (z : WordSize) (b m : List ℕ) : Type 0 where
-  pub rows : (j : ℕ) → j ≤ z .steps → row m j ≡ subMessage z b j
-
-pub expanded : (z : WordSize) (b m : List ℕ) → m ≡ expansion z b → length b ≡ 32 → Expanded z b m
-expanded z b m is len = record { rows = λ j le. expansion-row z b m j is len le }
+    word : ℕ → ℕ
+    word k = at (subMessage z b (k / 16)) (k % 16)

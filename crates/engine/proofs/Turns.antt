@@ -22,7 +22,7 @@ pub stepped-none : (z : WordSize) (b r : List ℕ) → Stepped z b r r 0
 unfolding steps
 stepped-none z b r = record { upTo = zero-le; chain = refl }
 
-module _ {z : WordSize} {b m r₀ r : List ℕ} {k : ℕ} (has : Expanded z b m) where
+module _ {z : WordSize} {b m r₀ r : List ℕ} {k : ℕ} (has : Expanded z b m (z .steps)) where
   pub stepped-more : (u : List ℕ) → Stepped z b r₀ r k → k * 2 + 1 < z .steps
       → u ≡ step z (k * 2 + 1) (row m (k * 2 + 1)) (step z (k * 2) (row m (k * 2)) r)
       → Stepped z b r₀ u (k + 1)
@@ -53,7 +53,7 @@ pub record Unstepped (z : WordSize) (b r₀ r : List ℕ) (k : ℕ) : Type 0 whe
 pub unstepped-none : (z : WordSize) (b r : List ℕ) (k : ℕ) → k * 2 ≡ z .steps → Unstepped z b r r k
 unstepped-none z b r k e = record { upTo = omega arith; chain = ap (λ (j : ℕ). unsteps z b j r) e }
 
-module _ {z : WordSize} {b m r₀ r : List ℕ} {k : ℕ} (has : Expanded z b m) where
+module _ {z : WordSize} {b m r₀ r : List ℕ} {k : ℕ} (has : Expanded z b m (z .steps)) where
   pub unstepped-more : (u : List ℕ) → Unstepped z b r₀ r k → 0 < k
       → u ≡ unstep z ((k - 1) * 2) (row m ((k - 1) * 2)) (unstep z ((k - 1) * 2 + 1) (row m ((k - 1) * 2 + 1)) r)
       → Unstepped z b r₀ u (k - 1)

@@ -107,8 +107,5 @@ module _ (z : WordSize) (some : 0 < blockBytes z) where
       ap (λ (k : ℕ). firstBlocks z k s) (ap (λ (n : ℕ). n / blockBytes z) e ∙ div-self some)
       ∙ ap (λ (b : List ℕ). wordsOf z 32 b ∷ []) (take-all (blockBytes z) s (le-of-eq e))
 
-  pub blocks-first : (s p : List ℕ) → length s ≡ blockBytes z → blocksOf z (s ++ p) ≡ wordsOf z 32 s ∷ blocksOf z p
-  blocks-first s p e = rw (blocks-append s p, one-block s e, rest-none s (ap (λ (n : ℕ). n % blockBytes z) e ∙ mod-self (blockBytes z)))
-
   pub rest-first : (s p : List ℕ) → length s ≡ blockBytes z → restOf z (s ++ p) ≡ restOf z p
   rest-first s p e = rw (rest-append s p, rest-none s (ap (λ (n : ℕ). n % blockBytes z) e ∙ mod-self (blockBytes z)))

@@ -7,12 +7,12 @@ use lib.ListN.{length, take}
 use Rattle.lsh.specs.WordSize.{lsh256}
 use Rattle.lsh.specs.Expansion.{subMessage}
 use Rattle.engine.specs.Rows.{expandedWords}
-use Rattle.engine.proofs.Rows.{Expanding, sub-next, expanding-none, expanding-more, expanding-all}
+use Rattle.engine.proofs.Rows.{Expanded, sub-next, expanded-none, expanded-more, expanded-all}
 use Rattle.lsh256.proofs.expand.Statement.{statement}
 use Rattle.lsh256.proofs.expand.Tie as tie
 
 abbrev Inv-loop : tie.InvT-loop
-Inv-loop m₀ p₀ j₀ m p j = Expanding lsh256 (take 32 m₀) m (j + 1) × (p ≡ subMessage lsh256 (take 32 m₀) (j + 1)) × (length m₀ ≡ expandedWords lsh256)
+Inv-loop m₀ p₀ j₀ m p j = Expanded lsh256 (take 32 m₀) m (j + 1) × (p ≡ subMessage lsh256 (take 32 m₀) (j + 1)) × (length m₀ ≡ expandedWords lsh256)
 
 abbrev μ-loop : tie.MeasureT-loop
 μ-loop m₀ p₀ j₀ m p j = lsh256 .steps - 1 - j
@@ -22,7 +22,7 @@ holds : tie.Need-loop-holds Inv-loop μ-loop
 unfolding lsh256 expandedWords
 holds c =
     let given = c .before .before .before .pre in
-    let first = expanding-none lsh256 (c .before .before .before .args .m .now) given (omega arith) in
+    let first = expanded-none lsh256 (c .before .before .before .args .m .now) given (omega arith) in
     (first, c .sub-message .ensures ∙ first .rows 1 (omega arith), given)
 
 -- a turn puts the next sub-message into its row
@@ -31,7 +31,7 @@ unfolding lsh256 expandedWords
 again c =
     let h = c .before .before .before .before .before .before .before .before .loop .inv in
     let next = sub-next lsh256 _ (c .before .before .before .before .before .before .before .before .loop .j) (c .before .before .before .before .next-sub-message .ensures) (h .1) (c .before .before .before .before .before .sub-message2 .ensures ∙ h .0 .rows _ (omega arith)) in
-    (expanding-more _ _ _ (h .0) (omega arith) next (c .before .before .put-sub-message .ensures), next, h .2)
+    (expanded-more _ _ _ (h .0) (omega arith) next (c .before .before .put-sub-message .ensures), next, h .2)
 
 pub expand-spec : {M : Type 1} → statement M
 unfolding lsh256 expandedWords
@@ -50,4 +50,4 @@ expand-spec =
     (λ c. omega arith)
     again
     (λ c. c .before .loop .inv .0 .len ∙ sym (c .before .loop .inv .2))
-    (λ c. expanding-all (c .before .loop .inv .0) (omega arith)))
+    (λ c. expanded-all (c .before .loop .inv .0) (omega arith)))

@@ -7,12 +7,12 @@ use lib.ListN.{length, take}
 use Rattle.lsh.specs.WordSize.{lsh512}
 use Rattle.lsh.specs.Expansion.{subMessage}
 use Rattle.engine.specs.Rows.{expandedWords}
-use Rattle.engine.proofs.Rows.{Expanding, sub-next, expanding-none, expanding-more, expanding-all}
+use Rattle.engine.proofs.Rows.{Expanded, sub-next, expanded-none, expanded-more, expanded-all}
 use Rattle.lsh512.proofs.expand.Statement.{statement}
 use Rattle.lsh512.proofs.expand.Tie as tie
 
 abbrev Inv-loop : tie.InvT-loop
-Inv-loop m₀ q₀ p₀ j₀ m q p j = Expanding lsh512 (take 32 m₀) m (j + 1) × (p ≡ subMessage lsh512 (take 32 m₀) (j + 1)) × (q ≡ subMessage lsh512 (take 32 m₀) j) × (length m₀ ≡ expandedWords lsh512)
+Inv-loop m₀ q₀ p₀ j₀ m q p j = Expanded lsh512 (take 32 m₀) m (j + 1) × (p ≡ subMessage lsh512 (take 32 m₀) (j + 1)) × (q ≡ subMessage lsh512 (take 32 m₀) j) × (length m₀ ≡ expandedWords lsh512)
 
 abbrev μ-loop : tie.MeasureT-loop
 μ-loop m₀ q₀ p₀ j₀ m q p j = lsh512 .steps - 1 - j
@@ -22,7 +22,7 @@ holds : tie.Need-loop-holds Inv-loop μ-loop
 unfolding lsh512 expandedWords
 holds c =
     let given = c .before .before .before .before .before .pre in
-    let first = expanding-none lsh512 (c .before .before .before .before .before .args .m .now) given (omega arith) in
+    let first = expanded-none lsh512 (c .before .before .before .before .before .args .m .now) given (omega arith) in
     (first, c .sub-message2 .ensures ∙ first .rows 1 (omega arith), c .before .before .sub-message .ensures ∙ first .rows 0 (omega arith), given)
 
 -- a turn puts the next sub-message into its row
@@ -31,7 +31,7 @@ unfolding lsh512 expandedWords
 again c =
     let h = c .before .before .before .before .before .before .loop .inv in
     let next = sub-next lsh512 _ (c .before .before .before .before .before .before .loop .j) (c .before .before .before .before .next-sub-message .ensures) (h .1) (h .2) in
-    (expanding-more _ _ _ (h .0) (omega arith) next (c .before .before .put-sub-message .ensures), next, h .1, h .3)
+    (expanded-more _ _ _ (h .0) (omega arith) next (c .before .before .put-sub-message .ensures), next, h .1, h .3)
 
 pub expand-spec : {M : Type 1} → statement M
 unfolding lsh512 expandedWords
@@ -50,4 +50,4 @@ expand-spec =
     (λ c. omega arith)
     again
     (λ c. c .before .loop .inv .0 .len ∙ sym (c .before .loop .inv .3))
-    (λ c. expanding-all (c .before .loop .inv .0) (omega arith)))
+    (λ c. expanded-all (c .before .loop .inv .0) (omega arith)))
