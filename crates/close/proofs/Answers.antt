@@ -3,7 +3,7 @@
 use mathlib.Core.Path.{_≡_, refl, sym, ap, _∙_}
 use mathlib.Core.Bool.{Bool, true, false, not, cond}
 use mathlib.Core.List.{List, _∷_, _++_}
-use Prim.Native.Nat.{ℕ, _+_, _-_, _%_, _^_, _<_}
+use Prim.Native.Nat.{ℕ, _+_, _-_, _*_, _%_, _^_, _<_}
 use native.Mathlib.Nat.{mod-eq-of-lt}
 use native.Mathlib.Omega.{arith}
 use borrow.Author.Tests.{eq-eqb, ne-eqb}
@@ -53,7 +53,7 @@ module _ (r : Record) (last e : ℕ) (output : List ℕ) where
 
   pub accepted-output : {p : ℕ} {t d : List ℕ} → answer ≡ 0 → length (r .held) ≡ longestBlock → Bytes (r .held) → last < 256 → p ≡ last + 2 ^ (7 - e)
       → t ≡ forwards Z (blocksOf Z (heldBytes r ++ p ∷ replicate (blockBytes Z - 1 - length (heldBytes r)) 0)) (r .chain)
-      → d ≡ receipt (r .w) (r .n) (digest Z (r .n) t) ++ drop receiptBytes output
+      → d ≡ receipt (r .w) (r .n) (digest Z (r .n) t) (8 * r .total + e) ++ drop receiptBytes output
       → (0 ≡ answer) × (d ≡ closeOutput r last e output)
   unfolding closeOutput closedDigest messageBits
   accepted-output {p} {t} {d} is long bytes byte pad run stored =
@@ -66,7 +66,7 @@ module _ (r : Record) (last e : ℕ) (output : List ℕ) where
       ∙ sym (padded-bytes Z s last e (block-some (r .w)) (held-bytes r bytes) byte (a .end .extra) (a .end .low)) in (
         sym is,
         stored
-            ∙ ap (λ (c : List ℕ). receipt (r .w) (r .n) (digest Z (r .n) c) ++ drop receiptBytes output)
+            ∙ ap (λ (c : List ℕ). receipt (r .w) (r .n) (digest Z (r .n) c) (8 * r .total + e) ++ drop receiptBytes output)
             (run ∙ ap (λ (b : List ℕ). forwards Z (blocksOf Z b) (r .chain)) block)
             ∙ sym (rw (eq-eqb answer 0 is)),
       )

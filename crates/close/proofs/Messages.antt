@@ -1,12 +1,12 @@
 -- Close on the record of a message is Whole on the message: the answers, the digests and the outputs are the same.
 -- Assumes nothing.
-use mathlib.Core.Path.{_≡_, refl, sym, ap, _∙_}
+use mathlib.Core.Path.{_≡_, refl, sym, ap, ap₂, _∙_}
 use mathlib.Core.Bool.{Bool, true, false, cond}
 use mathlib.Core.List.{List, _∷_, _++_}
 use Prim.Native.Nat.{ℕ, _+_, _-_, _*_, _%_, _≤_, _<_}
 use native.Mathlib.Nat.{mod-mod}
 use native.Mathlib.Omega.{arith}
-use borrow.Author.Tests.{le-ltb, eqb-true, eq-eqb}
+use borrow.Author.Tests.{le-ltb, eqb-true}
 use lib.Dec.{eqb}
 use lib.ListN.{length, take, drop, replicate}
 use lib.Seq.{length-take-le}
@@ -27,6 +27,7 @@ use Rattle.record.specs.Record.{heldBytes, recordOf}
 use Rattle.record.proofs.Strings.{held-record, record-sound}
 use Rattle.finalization.specs.Receipt.{receiptBytes, receipt}
 use Rattle.finalization.specs.Ending.{messageBits}
+use Rattle.finalization.proofs.Ending.{message-length}
 use Rattle.whole.specs.Whole.{wholeAnswer, wholeOutput}
 use Rattle.whole.proofs.Answers.{accepted}
 use Rattle.close.specs.Close.{closeAnswer, closedDigest, closeOutput}
@@ -85,24 +86,20 @@ module _ (w n : ℕ) (m : List ℕ) (word : isWordSize w ≡ true) (last e : ℕ
       abbrev answer : ℕ
       answer = wholeAnswer w n (length m) last e (length output)
 
-      -- the output with the receipt of a digest at its front
-      abbrev written : List Bool → List ℕ
-      written d = receipt w n d ++ drop receiptBytes output
+      -- the output with the receipt of a digest and a length at its front
+      abbrev written : List Bool → ℕ → List ℕ
+      written d bits = receipt w n d bits ++ drop receiptBytes output
 
       by-answer : (b : Bool) → eqb answer 0 ≡ b
-          → cond b (written (closedDigest R last e)) output ≡ cond b (written (lsh w n (messageBits m last e))) output
+          → cond b (written (closedDigest R last e) (8 * length m + e)) output
+          ≡ cond b (written (lsh w n (messageBits m last e)) (length (messageBits m last e))) output
       by-answer true is =
-          ap written (closed-digest bytes (accepted w n (length m) last e (length output) (eqb-true answer 0 is) .end .extra))
+          let few : e ≤ 7 = accepted w n (length m) last e (length output) (eqb-true answer 0 is) .end .extra in
+          ap₂ written (closed-digest bytes few) (sym (message-length m last e few))
       by-answer false is = refl
 
       pub same-output : closeOutput R last e output ≡ wholeOutput w n m last e output
       unfolding closeOutput wholeOutput recordOf
       same-output =
-          ap (λ (a : ℕ). cond (eqb a 0) (written (closedDigest R last e)) output) (same-answer (length output))
+          ap (λ (a : ℕ). cond (eqb a 0) (written (closedDigest R last e) (8 * length m + e)) output) (same-answer (length output))
           ∙ by-answer (eqb answer 0) refl
-
-      -- an accepted Close writes the receipt of the message's digest
-      pub close-receipt : closeAnswer R last e (length output) ≡ 0
-          → closeOutput R last e output ≡ receipt w n (lsh w n (messageBits m last e)) ++ drop receiptBytes output
-      unfolding wholeOutput
-      close-receipt is = same-output ∙ rw (eq-eqb answer 0 (sym (same-answer (length output)) ∙ is))

@@ -2,7 +2,7 @@
 -- Assumes nothing.
 use mathlib.Core.Bool.{Bool, not, cond}
 use mathlib.Core.List.{List, _++_}
-use Prim.Native.Nat.{ℕ}
+use Prim.Native.Nat.{ℕ, _+_, _*_}
 use lib.Dec.{eqb}
 use lib.ListN.{length, drop}
 use Rattle.lsh.specs.WordSize.{sizeOf}
@@ -25,9 +25,10 @@ closedDigest r last e =
     digest (sizeOf (r .w)) (r .n)
     (forwards (sizeOf (r .w)) (blocksOf (sizeOf (r .w)) (bytesOfBits (padded (sizeOf (r .w)) (messageBits (heldBytes r) last e)))) (r .chain))
 
--- the output after the call: its front replaced by the receipt of this digest if the answer is 0, else as it came
+-- the output after the call: its front replaced by the receipt of this digest, and of 8 bits for each byte and e more, if the answer is 0,
+-- else as it came
 unfoldable pub closeOutput : Record → ℕ → ℕ → List ℕ → List ℕ
 closeOutput r last e output =
     cond (eqb (closeAnswer r last e (length output)) 0)
-    (receipt (r .w) (r .n) (closedDigest r last e) ++ drop receiptBytes output)
+    (receipt (r .w) (r .n) (closedDigest r last e) (8 * r .total + e) ++ drop receiptBytes output)
     output

@@ -21,8 +21,9 @@ pub fn close(r: record::Record, last: u8, e: u64, output: &mut [u8]) -> u32
     }
     let w = r.w;
     let n = r.n;
+    let bits = 8 * r.total + e;
     let t = final_chain(r, finalization::pad_byte(last, e as u32));
-    finalization::write_receipt(w, n, t, output);
+    finalization::write_receipt(w, n, t, bits, output);
     0
 }
 

@@ -1,27 +1,30 @@
--- The bytes of a digest and of its receipt, one by one.
+-- The bytes of a digest and of its receipt.
 -- Assumes nothing.
 use mathlib.Core.Path.{_≡_, refl, sym, ap, _∙_}
-use mathlib.Core.Bool.{Bool, true, cond}
-use mathlib.Core.List.{List, [], _∷_, _++_}
-use Prim.Native.Nat.{ℕ, zero, suc, _+_, _-_, _*_, _/_, _%_, _^_, _≤_, _<_}
+use mathlib.Core.Bool.{true, cond}
+use mathlib.Core.List.{List, [], _∷_, _++_, append-assoc}
+use Prim.Native.Nat.{ℕ, _+_, _-_, _*_, _/_, _%_, _^_, _≤_, _<_}
 use native.Mathlib.Nat.{zero-add, div-add-mod'}
+use native.Mathlib.Decide.{decLt}
 use native.Mathlib.Omega.{arith}
 use borrow.Author.Tests.{lt-ltb, le-ltb}
 use lib.Dec.{ltb}
-use lib.ListN.{length, drop, replicate, length-append, length-replicate, List·getD-eq-default}
-use lib.Seq.{sets, sets-eq}
+use lib.ListN.{length, take, drop, set, replicate, length-append, length-set, length-replicate, replicate-append-replicate}
+use lib.Seq.{length-take-le, getD-take, getD-set-same, getD-set-other, ext-getD, take-append-le, take-at, drop-at, sets, sets-eq}
 use Rattle.lsh.specs.Tabulate.{at, tabulate}
 use Rattle.lsh.specs.WordSize.{isWordSize, sizeOf}
+use Rattle.lsh.specs.Bytes.{byteAt}
 use Rattle.lsh.specs.Bits.{bytesOfBits}
 use Rattle.lsh.specs.Hash.{finalBytes, digest}
 use Rattle.lsh.proofs.Figures.{bits-are, word-most}
 use Rattle.lsh.proofs.Tabulate.{length-tabulate, at-tabulate, tabulate-ext}
-use Rattle.lsh.proofs.Bytes.{octets}
 use Rattle.lsh.proofs.Opening.{at-zeros}
+use Rattle.lsh.proofs.Bytes.{octets}
+use Rattle.engine.proofs.Places.{Placed, stored-front}
 use Rattle.message.proofs.Digest.{digest-bytes}
 use Rattle.runs.specs.Limits.{longestDigest}
-use Rattle.engine.proofs.Places.{Placed, stored-front}
-use Rattle.finalization.specs.Receipt.{receiptBytes, receipt}
+use Rattle.runs.specs.ZeroFilled.{zeroFilled}
+use Rattle.finalization.specs.Receipt.{receiptBytes, digestPlace, lengthPlace, receipt}
 use Rattle.finalization.proofs.FinalBytes.{length-final, final-bytes}
 
 module _ (w n : ℕ) (t : List ℕ) (size : isWordSize w ≡ true) (le : n ≤ longestDigest w) where
@@ -40,51 +43,105 @@ module _ (w n : ℕ) (t : List ℕ) (size : isWordSize w ≡ true) (le : n ≤ l
       let len : length h ≡ w = length-final (sizeOf w) (octets w) t ∙ bits-are w size in
       digest-bytes h n (final-bytes (sizeOf w) (octets w) t) (rw len le)
 
+  length-bytes : length bytes ≡ (n + 7) / 8
+  length-bytes = ap length bytes-are ∙ length-tabulate ((n + 7) / 8) byteOf
+
   at-bytes : (i : ℕ) → i < (n + 7) / 8 → at bytes i ≡ byteOf i
   at-bytes i lt = ap (λ (s : List ℕ). at s i) bytes-are ∙ at-tabulate ((n + 7) / 8) byteOf i lt
 
-  pub whole-byte : (i : ℕ) → i < n / 8 → at bytes i ≡ at h i
+  whole-byte : (i : ℕ) → i < n / 8 → at bytes i ≡ at h i
   whole-byte i lt = at-bytes i (omega arith) ∙ rw (lt-ltb i (n / 8) lt)
 
-  pub cut-byte : (i : ℕ) → n / 8 ≤ i → i < (n + 7) / 8 → at bytes i ≡ at h i - at h i % 2 ^ (8 - n % 8)
+  cut-byte : (i : ℕ) → n / 8 ≤ i → i < (n + 7) / 8 → at bytes i ≡ at h i - at h i % 2 ^ (8 - n % 8)
   cut-byte i ge lt =
       let cut : byteOf i ≡ at h i / 2 ^ (8 - n % 8) * 2 ^ (8 - n % 8) = rw (le-ltb i (n / 8) ge) in
       at-bytes i lt ∙ cut ∙ omega (arith, div-add-mod' (at h i) (2 ^ (8 - n % 8)))
 
-  length-bytes : length bytes ≡ (n + 7) / 8
-  length-bytes = ap length bytes-are ∙ length-tabulate ((n + 7) / 8) byteOf
+  -- a byte string that begins with those of the final chain, with byte n / 8 cut to its first n % 8 bits
+  module _ (s : List ℕ) (is : take w s ≡ h) (long : w < length s) where
+    abbrev cutBytes : List ℕ
+    cutBytes = set s (n / 8) (at s (n / 8) - at s (n / 8) % 2 ^ (8 - n % 8))
 
-  pub no-byte : (i : ℕ) → (n + 7) / 8 ≤ i → at bytes i ≡ 0
-  no-byte i ge = List·getD-eq-default bytes 0 (rw length-bytes ge)
+    from-front : (i : ℕ) → i < w → at s i ≡ at h i
+    from-front i lt = sym (getD-take w s i 0 lt) ∙ ap (λ (l : List ℕ). at l i) is
 
-  -- the receipt
-  abbrev whole : List ℕ
-  whole = receipt w n (digest (sizeOf w) n t)
+    pub cut-front : take ((n + 7) / 8) cutBytes ≡ bytes
+    cut-front =
+        ext-getD 0 _ bytes (taken ∙ sym length-bytes)
+        (λ i lt. let lt′ : i < (n + 7) / 8 = rw taken at lt in getD-take ((n + 7) / 8) cutBytes i 0 lt′ ∙ go i lt′ (decLt i (n / 8)))
+      where
+        taken : length (take ((n + 7) / 8) cutBytes) ≡ (n + 7) / 8
+        taken = length-take-le ((n + 7) / 8) cutBytes (rw (length-set s (n / 8)) (omega arith))
 
-  length-receipt : length whole ≡ receiptBytes
-  unfolding receipt receiptBytes
-  length-receipt =
-      let short : length bytes ≤ 64 = omega (arith, length-bytes, word-most w size) in
-      let front : List ℕ = w ∷ 0 ∷ n % 256 ∷ n / 256 ∷ bytes in
-      length-append front (replicate (receiptBytes - length front) 0) ∙ omega (arith, length-replicate {A = ℕ} (receiptBytes - length front) 0)
+        go : (i : ℕ) → i < (n + 7) / 8 → Dec (i < n / 8) → at cutBytes i ≡ at bytes i
+        go i lt (yes before) = getD-set-other s (n / 8) i _ 0 (λ e. omega arith) ∙ from-front i (omega arith) ∙ sym (whole-byte i before)
+        go i lt (no from) =
+            let e : i ≡ n / 8 = omega arith in
+            ap (at cutBytes) e ∙ getD-set-same s (n / 8) _ 0 (omega arith)
+            ∙ ap (λ (x : ℕ). x - x % 2 ^ (8 - n % 8)) (ap (at s) (sym e) ∙ from-front i (omega arith))
+            ∙ sym (cut-byte i (omega arith) lt)
 
-  -- an output whose front was stored
-  pub written : {m₀ m : List ℕ} {i : ℕ} → Placed receiptBytes (λ k. k) (at whole) m₀ m i → receiptBytes ≤ i → receiptBytes ≤ length m₀ → m ≡ whole ++ drop receiptBytes m₀
-  written {m₀} {m} p ge room =
-      stored-front p ge room
-      ∙ ap (sets m₀ 0) (tabulate-ext receiptBytes (at whole) whole length-receipt (λ k lt. refl))
-      ∙ sets-eq whole m₀ 0 (rw length-receipt (omega arith))
-      ∙ ap (λ (k : ℕ). whole ++ drop k m₀) (zero-add (length whole) ∙ length-receipt)
+-- n stores at the front of a longer list
+pub front-stored : {n : ℕ} {f : ℕ → ℕ} {m₀ m : List ℕ} {i : ℕ} → Placed n (λ k. k) f m₀ m i → n ≤ i → n ≤ length m₀ → m ≡ tabulate n f ++ drop n m₀
+front-stored {n} {f} {m₀} p all room =
+    let size : length (tabulate n f) ≡ n = length-tabulate n f in
+    stored-front p all room
+    ∙ sets-eq (tabulate n f) m₀ 0 (omega arith)
+    ∙ ap (λ (k : ℕ). tabulate n f ++ drop k m₀) (zero-add (length (tabulate n f)) ∙ size)
 
--- zeros at the end change no place
-at-append-zeros : (s : List ℕ) (k i : ℕ) → at (s ++ replicate k 0) i ≡ at s i
-at-append-zeros [] k i = at-zeros k i
-at-append-zeros (x ∷ s) k zero = refl
-at-append-zeros (x ∷ s) k (suc i) = at-append-zeros s k i
+pub zeros-stored : {n : ℕ} {m₀ m : List ℕ} {i : ℕ} → Placed n (λ k. k) (λ k. 0) m₀ m i → n ≤ i → n ≤ length m₀ → m ≡ replicate n 0 ++ drop n m₀
+zeros-stored {n} {m₀} p all room =
+    front-stored p all room
+    ∙ ap (λ (s : List ℕ). s ++ drop n m₀) (tabulate-ext n (λ k. 0) (replicate n 0) (length-replicate {A = ℕ} n 0) (λ k lt. sym (at-zeros n k)))
 
--- its place i, where i is j
-pub at-receipt : (w n : ℕ) (d : List Bool) {i : ℕ} (j : ℕ) → i ≡ j → at (w ∷ 0 ∷ n % 256 ∷ n / 256 ∷ bytesOfBits d) j ≡ at (receipt w n d) i
+-- xs stored over q
+sets-over : (p q r xs : List ℕ) (i : ℕ) → length p ≡ i → length xs ≡ length q → sets (p ++ q ++ r) i xs ≡ p ++ xs ++ r
+sets-over p q r xs i place size =
+    let end : length (p ++ q) ≡ i + length xs = length-append p q ∙ omega arith in
+    let room : i + length xs ≤ length (p ++ q ++ r) = omega (arith, length-append (p ++ q) r) in
+    sets-eq xs (p ++ q ++ r) i room
+    ∙ rw (take-append-le i (p ++ q) r (omega arith), take-at p q i place, drop-at (p ++ q) r (i + length xs) end)
+
+-- zeros, and then the parts of a receipt in their places
+module _ (w a b : ℕ) (d l m : List ℕ) (short : length d ≤ lengthPlace - digestPlace) (eight : length l ≡ 8) where
+  abbrev front : List ℕ
+  front = w ∷ 0 ∷ a ∷ b ∷ []
+
+  abbrev left : ℕ
+  left = lengthPlace - length (front ++ d)
+
+  zeros-apart : replicate 72 0 ++ m ≡ replicate (length d) 0 ++ (replicate left 0 ++ replicate 8 0 ++ m)
+  zeros-apart =
+      let sum : 72 ≡ length d + (left + 8) = omega arith in
+      ap (λ (k : ℕ). replicate k 0 ++ m) sum
+      ∙ ap (λ (s : List ℕ). s ++ m)
+      (sym (replicate-append-replicate {A = ℕ} (length d) (left + 8) 0)
+      ∙ ap (λ (s : List ℕ). replicate (length d) 0 ++ s) (sym (replicate-append-replicate {A = ℕ} left 8 0)))
+      ∙ simp append-assoc
+
+  put-together : sets (sets (set (set (set (replicate receiptBytes 0 ++ m) 0 w) 2 a) 3 b) digestPlace d) lengthPlace l
+      ≡ zeroFilled lengthPlace (front ++ d) ++ l ++ m
+  unfolding receiptBytes
+  put-together =
+      let rest : List ℕ = replicate left 0 ++ replicate 8 0 ++ m in
+      let long : length (front ++ d ++ replicate left 0) ≡ lengthPlace =
+      length-append (front ++ d) (replicate left 0) ∙ omega (arith, length-replicate {A = ℕ} left 0) in
+      ap (λ (s : List ℕ). sets (sets (front ++ s) digestPlace d) lengthPlace l) zeros-apart
+      ∙ ap (λ (s : List ℕ). sets s lengthPlace l)
+      (sets-over front (replicate (length d) 0) rest d digestPlace refl (sym (length-replicate {A = ℕ} (length d) 0)) ∙ simp append-assoc)
+      ∙ sets-over (front ++ d ++ replicate left 0) (replicate 8 0) m l lengthPlace long eight
+
+-- the output after each step of the code
+pub written : (w n : ℕ) (t : List ℕ) → isWordSize w ≡ true → n ≤ longestDigest w → (bits : ℕ) (m : List ℕ) {m₁ m₂ m₃ d : List ℕ}
+    → m₁ ≡ replicate receiptBytes 0 ++ drop receiptBytes m → d ≡ bytesOfBits (digest (sizeOf w) n t)
+    → m₂ ≡ sets (set (set (set m₁ 0 w) 2 (n % 256)) 3 (n / 256)) digestPlace d → m₃ ≡ sets m₂ lengthPlace (tabulate 8 (byteAt bits))
+    → m₃ ≡ receipt w n (digest (sizeOf w) n t) bits ++ drop receiptBytes m
 unfolding receipt
-at-receipt w n d j e =
-    let front : List ℕ = w ∷ 0 ∷ n % 256 ∷ n / 256 ∷ bytesOfBits d in
-    sym (at-append-zeros front (receiptBytes - length front) j) ∙ ap (at (receipt w n d)) (sym e)
+written w n t size le bits m {m₁} cleared digest-is first last =
+    let short : length (bytesOfBits (digest (sizeOf w) n t)) ≤ lengthPlace - digestPlace = omega (arith, length-bytes w n t size le, word-most w size) in
+    last
+    ∙ ap (λ (s : List ℕ). sets s lengthPlace (tabulate 8 (byteAt bits)))
+    (first
+    ∙ ap (λ (s : List ℕ). sets (set (set (set m₁ 0 w) 2 (n % 256)) 3 (n / 256)) digestPlace s) digest-is
+    ∙ ap (λ (s : List ℕ). sets (set (set (set s 0 w) 2 (n % 256)) 3 (n / 256)) digestPlace (bytesOfBits (digest (sizeOf w) n t))) cleared)
+    ∙ put-together w (n % 256) (n / 256) (bytesOfBits (digest (sizeOf w) n t)) (tabulate 8 (byteAt bits)) (drop receiptBytes m) short (length-tabulate 8 (byteAt bits))

@@ -2,9 +2,10 @@
 ghost use mathlib.Core.Path.{_≡_};
 ghost use mathlib.Core.Bool.{true};
 ghost use mathlib.Core.List.{_∷_, _++_};
-ghost use Prim.Native.Nat.{_+_, _-_, _%_, _^_, _<_, _≤_};
-ghost use lib.ListN.{length, drop, replicate};
-ghost use Rattle.lsh.specs.Tabulate.{at};
+ghost use Prim.Native.Nat.{_+_, _-_, _/_, _%_, _^_, _<_, _≤_};
+ghost use lib.ListN.{length, take, drop, replicate};
+ghost use lib.Seq.{sets};
+ghost use Rattle.lsh.specs.Tabulate.{at, tabulate};
 ghost use Rattle.lsh.specs.Word.{xor};
 ghost use Rattle.lsh.specs.WordSize.{isWordSize, sizeOf, blockBytes};
 ghost use Rattle.lsh.specs.Block.{Chain, forwards};
@@ -12,15 +13,21 @@ ghost use Rattle.lsh.specs.Bits.{bytesOfBits};
 ghost use Rattle.lsh.specs.Padding.{blocksOf};
 ghost use Rattle.lsh.specs.Hash.{finalBytes, digest};
 ghost use Rattle.runs.specs.Limits.{longestBlock, longestDigest};
-ghost use Rattle.finalization.specs.Receipt.{receiptBytes, receipt};
+ghost use Rattle.finalization.specs.Receipt.{receiptBytes, digestPlace, receipt};
 ghost use Rattle.finalization.specs.Ending.{endAnswer};
 use runs::LONGEST_BLOCK;
 
 // Bytes of a receipt.
-pub const RECEIPT: usize = 68;
+pub const RECEIPT: usize = 76;
 
 // The place of the digest in a receipt, after w and n.
 pub const DIGEST: usize = 4;
+
+// The place of the message's length in bits, which takes the last eight bytes.
+pub const LENGTH: usize = 68;
+
+// The most bits of a message.
+pub const MOST_BITS: u64 = 8 * runs::LIMIT as u64 + 7;
 
 // The answer by the end of a message and the size of the output.
 pub fn end_answer(last: u8, e: u64, size: usize) -> u32
@@ -78,72 +85,74 @@ fn last_block(rest: &[u8], pad: u8) -> [u8; LONGEST_BLOCK]
     b
 }
 
-// Writes the receipt of the chain reached at the output's front.
-pub fn write_receipt(w: u64, n: u64, t: [u64; 16], output: &mut [u8])
+// Writes the receipt at the output's front: the digest of the chain reached, and the length of the message in bits.
+pub fn write_receipt(w: u64, n: u64, t: [u64; 16], bits: u64, output: &mut [u8])
     requires { ⌜ (isWordSize w ≡ true) × (n ≤ longestDigest w) × Chain (sizeOf w) t × (receiptBytes ≤ length (now output)) ⌝ }
-    ensures { λ _. ⌜ now (output .exit) ≡ receipt w n (digest (sizeOf w) n t) ++ drop receiptBytes (now (output .entry)) ⌝ }
+    ensures { λ _. ⌜ now (output .exit) ≡ receipt w n (digest (sizeOf w) n t) bits ++ drop receiptBytes (now (output .entry)) ⌝ }
+{
+    let size = ((n + 7) / 8) as usize;
+    let bytes = digest_bytes(w, n, t);
+    clear(output);
+    output[0] = w as u8;
+    output[2] = (n % 256) as u8;
+    output[3] = (n / 256) as u8;
+    put_digest(output, &bytes[..size]);
+    word64::store(output, LENGTH, bits);
+}
+
+// Zeros in all places of a receipt.
+fn clear(output: &mut [u8])
+    requires { ⌜ receiptBytes ≤ length (now output) ⌝ }
+    ensures { λ _. ⌜ now (output .exit) ≡ replicate receiptBytes 0 ++ drop receiptBytes (now (output .entry)) ⌝ }
 {
     let end = RECEIPT;
     for i in 0..end {
-        output[i] = receipt_byte(w, n, t, i);
+        output[i] = 0;
     }
 }
 
-fn receipt_byte(w: u64, n: u64, t: [u64; 16], i: usize) -> u8
+fn put_digest(output: &mut [u8], bytes: &[u8])
+    requires { ⌜ digestPlace + length (now bytes) ≤ length (now output) ⌝ }
+    ensures { λ _. ⌜ now (output .exit) ≡ sets (now (output .entry)) digestPlace (now (bytes .entry)) ⌝ }
+{
+    let n = bytes.len();
+    for i in 0..n {
+        let place = DIGEST + i;
+        output[place] = bytes[i];
+    }
+}
+
+// The bytes of the digest, and others after them. The bits of its last byte after the first n are 0.
+fn digest_bytes(w: u64, n: u64, t: [u64; 16]) -> [u8; LONGEST_BLOCK]
     requires { ⌜ (isWordSize w ≡ true) × (n ≤ longestDigest w) × Chain (sizeOf w) t ⌝ }
-    ensures { λ r. ⌜ r ≡ at (receipt w n (digest (sizeOf w) n t)) i ⌝ }
+    ensures { λ r. ⌜ take ((n + 7) / 8) r ≡ bytesOfBits (digest (sizeOf w) n t) ⌝ }
 {
-    if DIGEST <= i {
-        return digest_byte(w, n, t, i - DIGEST);
-    }
-    if i == 0 {
-        return w as u8;
-    }
-    if i == 1 {
-        return 0;
-    }
-    if i == 2 {
-        return (n % 256) as u8;
-    }
-    (n / 256) as u8
+    let mut s = final_bytes(w, t);
+    let last = (n / 8) as usize;
+    let x = s[last];
+    s[last] = x - low_bits(x, (n % 8) as u32);
+    s
 }
 
-// Byte i of the digest. The bits after the first n are 0, and so are bytes that it does not have.
-fn digest_byte(w: u64, n: u64, t: [u64; 16], i: usize) -> u8
-    requires { ⌜ (isWordSize w ≡ true) × (n ≤ longestDigest w) × Chain (sizeOf w) t ⌝ }
-    ensures { λ r. ⌜ r ≡ at (bytesOfBits (digest (sizeOf w) n t)) i ⌝ }
+// The bytes of the final chain, and others after them.
+fn final_bytes(w: u64, t: [u64; 16]) -> [u8; LONGEST_BLOCK]
+    requires { ⌜ (isWordSize w ≡ true) × Chain (sizeOf w) t ⌝ }
+    ensures { λ r. ⌜ take w r ≡ finalBytes (sizeOf w) t ⌝ }
 {
-    let whole = (n / 8) as usize;
-    if i < whole {
-        return final_byte(w, t, i);
-    }
-    let bits = (n % 8) as u32;
-    if bits == 0 {
-        return 0;
-    }
-    if whole < i {
-        return 0;
-    }
-    let x = final_byte(w, t, i);
-    x - low_bits(x, bits)
+    let mut s = runs::zero_bytes();
+    let size = runs::chain_bytes(w);
+    runs::store_chain(w, &mut s[..size], final_words(t));
+    s
 }
 
-// Byte i of the final chain's bytes.
-fn final_byte(w: u64, t: [u64; 16], i: usize) -> u8
-    requires { ⌜ (isWordSize w ≡ true) × Chain (sizeOf w) t × (i < w) ⌝ }
-    ensures { λ r. ⌜ r ≡ at (finalBytes (sizeOf w) t) i ⌝ }
+// Words l and l + 8 of the chain in one, for l = 0 to 7, and zeros. A chain of 32-bit words has only zeros above them.
+fn final_words(t: [u64; 16]) -> [u64; 16]
+    ensures { λ r. ⌜ r ≡ tabulate 8 (λ l. xor 64 (at t l) (at t (l + 8))) ++ replicate 8 0 ⌝ }
 {
-    if w == 32 {
-        return word64::byte(final_word(t, i / 4), (i % 4) as u32);
+    let mut r = [0u64; 16];
+    for l in 0..8 {
+        let h = l + 8;
+        r[l] = word64::exclusive_or(t[l], t[h]);
     }
-    word64::byte(final_word(t, i / 8), (i % 8) as u32)
-}
-
-// Words l and l + 8 of the chain in one. A chain of 32-bit words has only zeros above them.
-fn final_word(t: [u64; 16], l: usize) -> u64
-    requires { ⌜ l < 8 ⌝ }
-    ensures { λ r. ⌜ r ≡ xor 64 (at t l) (at t (l + 8)) ⌝ }
-{
-    let h = l + 8;
-    word64::exclusive_or(t[l], t[h])
+    r
 }

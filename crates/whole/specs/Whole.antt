@@ -20,9 +20,9 @@ wholeAnswer w n len last e size =
     (cond (ltb limit len) 5
     (endAnswer last e size)))
 
--- the output after the call: its front replaced by the receipt of the message's digest if the answer is 0, else as it came
+-- the output after the call: its front replaced by the receipt of the message's digest and length if the answer is 0, else as it came
 unfoldable pub wholeOutput : ℕ → ℕ → List ℕ → ℕ → ℕ → List ℕ → List ℕ
 wholeOutput w n s last e output =
     cond (eqb (wholeAnswer w n (length s) last e (length output)) 0)
-    (receipt w n (lsh w n (messageBits s last e)) ++ drop receiptBytes output)
+    (receipt w n (lsh w n (messageBits s last e)) (length (messageBits s last e)) ++ drop receiptBytes output)
     output

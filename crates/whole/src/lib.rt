@@ -19,8 +19,9 @@ pub fn whole(w: u64, n: u64, message: &[u8], last: u8, e: u64, output: &mut [u8]
     if a != 0 {
         return a;
     }
+    let bits = 8 * message.len() as u64 + e;
     let t = final_chain(w, n, message, finalization::pad_byte(last, e as u32));
-    finalization::write_receipt(w, n, t, output);
+    finalization::write_receipt(w, n, t, bits, output);
     0
 }
 

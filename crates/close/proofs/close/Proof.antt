@@ -7,7 +7,7 @@ use mir.Syntax.{w8}
 use mir.Val.{Fits}
 use borrow.Author.Needs.{needs}
 use Rattle.lsh.proofs.Bytes.{Bytes}
-use Rattle.runs.specs.Limits.{longestBlock}
+use Rattle.runs.specs.Limits.{longestBlock, limit}
 use Rattle.record.proofs.Sound.{Sound, sounds}
 use Rattle.runs.proofs.Limits.{digest-most}
 use Rattle.whole.proofs.FinalChain.{run-chain}
@@ -40,7 +40,7 @@ is-sound c = sounds (c .before .before .before .args .r) (passed c .taken)
 
 write-receipt-requires : tie.Need-write-receipt-requires
 write-receipt-requires c κs =
-    let p = c .before .before .before in
+    let p = c .before .before .before .before in
     let z = p .before .before .before in
     let s : Sound (z .args .r) = is-sound p in (
       s .word,
@@ -51,7 +51,7 @@ write-receipt-requires c κs =
 
 returns-2 : tie.Need-returns-2
 returns-2 c =
-    let p = c .before .before .before .before .before .before in
+    let p = c .before .before .before .before .before .before .before in
     let z = p .before .before .before in
     accepted-output (z .args .r) (z .args .last) (z .args .e) (z .args .output .now)
     (sym (p .before .answer .ensures) ∙ p .if1 .left)
@@ -63,14 +63,17 @@ returns-2 c =
     (c .before .before .write-receipt .ensures)
 
 pub close-spec : {M : Type 1} → statement M
+unfolding limit
 close-spec =
     tie.close
     (tie.spec
     (λ c κs. search needs)
     (λ c. refused-output (c .before .before .before .args .r) _ _ (c .before .before .before .args .output .now) (c .before .answer .ensures) (c .if1 .taken))
-    (λ c. record { fits = omega (arith, passed c .end .extra) })
-    (λ c κs. (passed c .end .extra, passed c .end .low))
-    (λ c κs. passed (c .before) .taken)
+    (λ c. omega (arith, is-sound (c .before) .few))
+    (λ c. omega (arith, is-sound (c .before) .few, passed (c .before) .end .extra))
+    (λ c. record { fits = omega (arith, passed (c .before) .end .extra) })
+    (λ c κs. (passed (c .before) .end .extra, passed (c .before) .end .low))
+    (λ c κs. passed (c .before .before) .taken)
     write-receipt-requires
     (λ c. search needs)
     returns-2)

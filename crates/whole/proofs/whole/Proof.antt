@@ -4,21 +4,45 @@ use native.Mathlib.Omega.{arith}
 use lib.ListN.{length}
 use borrow.Author.Needs.{needs}
 use Rattle.lsh.proofs.Opening.{opening-chain}
+use Rattle.runs.specs.Limits.{limit}
 use Rattle.runs.proofs.Limits.{digest-most}
 use Rattle.whole.proofs.FinalChain.{run-chain}
-use Rattle.whole.proofs.Answers.{accepted, refused-output, accepted-output}
+use Rattle.whole.proofs.Answers.{Accepted, accepted, refused-output, accepted-output}
 use Rattle.whole.proofs.whole.Statement.{statement}
 use Rattle.whole.proofs.whole.Tie as tie
 
+-- the call is accepted
+passed : (c : tie.Else1)
+    → Accepted (c .before .before .before .before .args .w) (c .before .before .before .before .args .n) (length (c .before .before .before .before .args .message .now)) (c .before .before .before .before .args .last) (c .before .before .before .before .args .e) (length (c .before .before .before .before .args .output .now))
+passed c =
+    let a = c .before .before .before .before .args in
+    accepted (a .w) (a .n) (length (a .message .now)) (a .last) (a .e) (length (a .output .now)) (sym (c .before .answer .ensures) ∙ c .if1 .left)
+
 pub whole-spec : {M : Type 1} → statement M
+unfolding limit
 whole-spec =
     tie.close
     (tie.spec
     (λ c κs. search needs)
     (λ c. refused-output _ _ (c .before .before .before .before .args .message .now) _ _ (c .before .before .before .before .args .output .now) (c .before .answer .ensures) (c .if1 .taken))
-    (λ c. record { fits = omega (arith, accepted _ _ (length (c .before .before .before .before .args .message .now)) _ _ (length (c .before .before .before .before .args .output .now)) (sym (c .before .answer .ensures) ∙ c .if1 .left) .end .extra) })
-    (λ c κs. (accepted _ _ (length (c .before .before .before .before .args .message .now)) _ _ (length (c .before .before .before .before .args .output .now)) (sym (c .before .answer .ensures) ∙ c .if1 .left) .end .extra, accepted _ _ (length (c .before .before .before .before .args .message .now)) _ _ (length (c .before .before .before .before .args .output .now)) (sym (c .before .answer .ensures) ∙ c .if1 .left) .end .low))
-    (λ c κs. (accepted _ _ (length (c .before .before .before .before .before .args .message .now)) _ _ (length (c .before .before .before .before .before .args .output .now)) (sym (c .before .before .answer .ensures) ∙ c .before .if1 .left) .wordSize, accepted _ _ (length (c .before .before .before .before .before .args .message .now)) _ _ (length (c .before .before .before .before .before .args .output .now)) (sym (c .before .before .answer .ensures) ∙ c .before .if1 .left) .digestLength))
-    (λ c κs. (accepted _ _ (length (c .before .before .before .before .before .before .before .args .message .now)) _ _ (length (c .before .before .before .before .before .before .before .args .output .now)) (sym (c .before .before .before .before .answer .ensures) ∙ c .before .before .before .if1 .left) .wordSize, digest-most _ _ (accepted _ _ (length (c .before .before .before .before .before .before .before .args .message .now)) _ _ (length (c .before .before .before .before .before .before .before .args .output .now)) (sym (c .before .before .before .before .answer .ensures) ∙ c .before .before .before .if1 .left) .digestLength), run-chain _ (c .before .before .before .before .before .before .before .args .n) _ (opening-chain _ (c .before .before .before .before .before .before .before .args .n)) (c .before .final-chain .ensures), accepted _ _ (length (c .before .before .before .before .before .before .before .args .message .now)) _ _ (length (c .before .before .before .before .before .before .before .args .output .now)) (sym (c .before .before .before .before .answer .ensures) ∙ c .before .before .before .if1 .left) .end .room))
+    (λ c. omega (arith, passed c .within))
+    (λ c. omega (arith, passed c .within, passed c .end .extra))
+    (λ c. omega (arith, passed c .end .extra))
+    (λ c κs. (passed c .end .extra, passed c .end .low))
+    (λ c κs. (passed (c .before) .wordSize, passed (c .before) .digestLength))
+    (λ c κs.
+    let p = c .before .before .before in
+    let z = p .before .before .before .before in
+    let a = passed p in
+    (a .wordSize, digest-most _ _ (a .digestLength), run-chain _ (z .args .n) _ (opening-chain _ (z .args .n)) (c .before .final-chain .ensures), a .end .room))
     (λ c. search needs)
-    (λ c. accepted-output _ _ (c .before .before .before .before .before .before .before .before .before .before .args .message .now) _ _ (c .before .before .before .before .before .before .before .before .before .before .args .output .now) (sym (c .before .before .before .before .before .before .before .answer .ensures) ∙ c .before .before .before .before .before .before .if1 .left) (λ i. c .before .before .before .before .before .before .before .before .before .shared-slice-known .given i .fits) (c .before .before .before .before .before .before .before .before .before .before .fits .last .fits) (c .before .before .before .before .before .pad-byte .ensures) (c .before .before .before .before .final-chain .ensures) (c .before .before .write-receipt .ensures)))
+    (λ c.
+    let p = c .before .before .before .before .before .before in
+    let z = p .before .before .before .before in
+    accepted-output _ _ (z .args .message .now) _ _ (z .args .output .now)
+    (sym (p .before .answer .ensures) ∙ p .if1 .left)
+    (λ i. p .before .before .before .shared-slice-known .given i .fits)
+    (z .fits .last .fits)
+    (c .before .before .before .before .before .pad-byte .ensures)
+    (c .before .before .before .before .final-chain .ensures)
+    (c .before .before .write-receipt .ensures)))
