@@ -48,12 +48,17 @@ extern "C" {
 #define LSH_CHAIN_BYTES(w) (2 * (w))
 #define LSH_BLOCK_BYTES(w) (4 * (w))
 
-/* The most bytes of a message or of an order. */
+/* The most bytes of a message or of an order, and the most bits of a message. */
 #define LSH_MOST_BYTES (UINT64_C(1) << 40)
+#define LSH_MOST_BITS (8 * LSH_MOST_BYTES + 7)
 
 /* Bytes of a receipt, and the most receipts of a list. */
-#define LSH_RECEIPT_BYTES 68
+#define LSH_RECEIPT_BYTES 76
 #define LSH_MOST_RECEIPTS 960
+
+/* Where the digest stands in a receipt, and where the length of the message in bits, which takes the last eight bytes. */
+#define LSH_DIGEST_PLACE 4
+#define LSH_LENGTH_PLACE 68
 
 /* A checkpoint is laid at every block whose number is a multiple of this. */
 #define LSH_CHECKPOINT_BLOCKS 64
@@ -190,8 +195,14 @@ lsh_outcome lsh_rewind_roll(lsh_record r, uint64_t keep, const uint8_t *h, size_
 /* ---- one message ---- */
 
 /* Writes the receipt of a message: its bytes, and then the top e bits of one more byte, `last`. Where the message is a whole number of bytes,
- * last and e are 0. w and n are as for lsh_open. Byte 0 of the receipt is w, byte 1 is 0, bytes 2 and 3 are n with the low byte first, and
- * then come the digest and zeros to byte 67. Bits of the digest's last byte after the first n are 0.
+ * last and e are 0. w and n are as for lsh_open. What stands where in the receipt:
+ *
+ *     0                   w
+ *     1                   0
+ *     2                   n, two bytes, low byte first
+ *     LSH_DIGEST_PLACE    the digest: n bits, the highest bit of a byte first, and then zeros up to the next part
+ *     LSH_LENGTH_PLACE    the length of the message in bits: 8 for each byte, and e; eight bytes, low byte first
+ *
  * Answers 0 and writes the first LSH_RECEIPT_BYTES bytes of the output, and no other; or answers LSH_BAD_WORD_SIZE, LSH_BAD_DIGEST_LENGTH,
  * LSH_TOO_LONG, LSH_BAD_EXTRA_BITS, LSH_BAD_LAST_BYTE or LSH_SHORT_OUTPUT, tested in that order, and changes nothing. */
 uint32_t lsh_whole(uint64_t w, uint64_t n, const uint8_t *message, size_t message_len, uint8_t last, uint64_t e, uint8_t *output,
@@ -199,9 +210,10 @@ uint32_t lsh_whole(uint64_t w, uint64_t n, const uint8_t *message, size_t messag
 
 /* ---- receipts ---- */
 
-/* Tells whether two receipts are the same in all their bytes.
- * Answers 0 and yes or no; or answers LSH_NO_RECEIPTS if one of the lengths is not LSH_RECEIPT_BYTES, then LSH_MALFORMED if one of the
- * receipts is malformed: a w, byte 1 or n that no receipt has, or a bit after the digest's n that is set. */
+/* Tells whether two receipts are the same: word size, digest length, digest and the length of the message in bits all agree. Two receipts
+ * that are not malformed are the same exactly if all their bytes are.
+ * Answers 0 and yes or no; or answers LSH_NO_RECEIPTS if one of the byte strings has not LSH_RECEIPT_BYTES bytes, then LSH_MALFORMED if one of
+ * the receipts is malformed: a w, byte 1 or n that no receipt has, a bit after the digest's n that is set, or a length above LSH_MOST_BITS. */
 lsh_sameness lsh_same(const uint8_t *a, size_t a_len, const uint8_t *b, size_t b_len);
 
 /* Counts a list of receipts, which stand end to end: a receipt is a first if no earlier one is the same, and a reprint if some earlier one

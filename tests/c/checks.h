@@ -106,6 +106,25 @@ static inline uint32_t end_answer(uint8_t last, uint64_t e, size_t output_len)
     return LSH_ACCEPTED;
 }
 
+/* ---- the length on a receipt ---- */
+
+/* The length of the message in bits: the bytes of a receipt from LSH_LENGTH_PLACE on, low byte first. */
+static inline uint64_t length_on(const uint8_t *receipt)
+{
+    uint64_t bits = 0;
+    for (size_t i = LSH_LENGTH_PLACE; i < LSH_RECEIPT_BYTES; i++) {
+        bits |= (uint64_t)receipt[i] << 8 * (i - LSH_LENGTH_PLACE);
+    }
+    return bits;
+}
+
+static inline void put_length(uint8_t *receipt, uint64_t bits)
+{
+    for (size_t i = LSH_LENGTH_PLACE; i < LSH_RECEIPT_BYTES; i++) {
+        receipt[i] = (uint8_t)(bits >> 8 * (i - LSH_LENGTH_PLACE));
+    }
+}
+
 /* ---- buffers ---- */
 
 #define GUARD 64     /* guard bytes before and after a buffer, at least */

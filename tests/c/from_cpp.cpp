@@ -27,7 +27,8 @@ int main()
 
     good = good && dropped.number == LSH_ACCEPTED && dropped.next.total == 1
         && std::memcmp(&dropped.next, &first.next, sizeof first.next) == 0 && sameness.number == LSH_ACCEPTED && sameness.same
-        && counts.number == LSH_ACCEPTED && counts.firsts == 1 && counts.reprints == 1;
+        && counts.number == LSH_ACCEPTED && counts.firsts == 1 && counts.reprints == 1
+        && receipts[LSH_LENGTH_PLACE] == 8 * dropped.next.total;
 
     // A piece of one checkpoint on a roll of one slot, and all of it handed back.
     static const uint8_t piece[LSH_CHECKPOINT_BLOCKS * LSH_BLOCK_BYTES(32)] = {};

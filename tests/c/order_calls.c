@@ -254,6 +254,20 @@ static void try_limit(uint64_t w)
     }
 }
 
+/* The longest message of all: the most bytes and seven more bits. Its length is on the receipt, which lsh_same takes. */
+static void try_longest_message(uint64_t w)
+{
+    struct guarded output;
+    fill(&output);
+    lsh_record r = sound_record(w, LSH_MOST_BYTES);
+    close_order(&r, random_last_byte(7), 7, &output, LSH_RECEIPT_BYTES);
+    const uint8_t *receipt = buffer(&output);
+    check(length_on(receipt) == LSH_MOST_BITS, "lsh_close writes %" PRIu64 " bits for the longest message", length_on(receipt));
+    lsh_sameness sameness = lsh_same(receipt, LSH_RECEIPT_BYTES, receipt, LSH_RECEIPT_BYTES);
+    check(sameness.number == LSH_ACCEPTED && sameness.same, "lsh_same answers %" PRIu32 " to the receipt of the longest message",
+          sameness.number);
+}
+
 /* ---- what is tried: the lengths of a rewind, and the end of a message ---- */
 
 static void try_rewind_lengths(uint64_t w)
@@ -330,6 +344,7 @@ int main(void)
         try_foreign_chain(w);
         try_wrong_records(w);
         try_limit(w);
+        try_longest_message(w);
         try_rewind_lengths(w);
         try_changed_bytes(w);
         try_ends(w);

@@ -144,15 +144,16 @@ static inline void right_receipt(const lsh_record *r, uint8_t last, uint64_t e, 
     end.held[r->total % LSH_BLOCK_BYTES(r->w)] = (uint8_t)(last | 0x80u >> e);
     run_block(lsh_block_forward, &end, end.held);
 
-    const uint8_t first[4] = {(uint8_t)r->w, 0, (uint8_t)r->n, (uint8_t)(r->n >> 8)};
+    const uint8_t first[LSH_DIGEST_PLACE] = {(uint8_t)r->w, 0, (uint8_t)r->n, (uint8_t)(r->n >> 8)};
     size_t word = r->w / 8;
     memset(receipt, 0, LSH_RECEIPT_BYTES);
     memcpy(receipt, first, sizeof first);
     for (size_t bit = 0; bit < r->n; bit++) {
         size_t i = bit / 8;
         uint64_t xor = end.chain[i / word] ^ end.chain[i / word + 8];
-        receipt[sizeof first + i] |= (uint8_t)(xor >> 8 * (i % word)) & (uint8_t)(0x80u >> bit % 8);
+        receipt[LSH_DIGEST_PLACE + i] |= (uint8_t)(xor >> 8 * (i % word)) & (uint8_t)(0x80u >> bit % 8);
     }
+    put_length(receipt, 8 * r->total + e);
 }
 
 #endif

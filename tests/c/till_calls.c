@@ -14,7 +14,6 @@
 #include "checks.h"
 
 #define ROUNDS 2000 /* random pairs, and random lists */
-#define FRONT 4     /* bytes before the digest */
 
 /* ---- what has to be answered ---- */
 
@@ -25,12 +24,12 @@ static bool is_well_formed(const uint8_t *receipt)
     if ((w != 32 && w != 64) || receipt[1] != 0 || n == 0 || n > 8 * w) {
         return false;
     }
-    for (size_t bit = n; bit < 8 * (LSH_RECEIPT_BYTES - FRONT); bit++) {
-        if ((receipt[FRONT + bit / 8] & 0x80u >> bit % 8) != 0) {
+    for (size_t bit = n; bit < 8 * (LSH_LENGTH_PLACE - LSH_DIGEST_PLACE); bit++) {
+        if ((receipt[LSH_DIGEST_PLACE + bit / 8] & 0x80u >> bit % 8) != 0) {
             return false;
         }
     }
-    return true;
+    return length_on(receipt) <= LSH_MOST_BITS;
 }
 
 static bool agree(const uint8_t *a, const uint8_t *b)
@@ -120,13 +119,15 @@ static void tally(struct guarded *list, size_t list_len)
 /* The buffers are large, so they are not on the stack. */
 static struct guarded one, other;
 
-/* A receipt as lsh_whole writes it, of a message of one byte. There are few messages, so that some receipts come again. */
+/* A receipt as lsh_whole writes it, of a message of at most two bytes. There are few messages, so that some receipts come again, and some
+ * digests are of one bit, so that some receipts differ in the length alone. */
 static void write_receipt(uint8_t *receipt)
 {
     uint64_t w = below(2) == 0 ? 32 : 64;
     uint64_t n = 1 + below(8) * w;
-    uint8_t message = (uint8_t)below(4);
-    check(lsh_whole(w, n, &message, sizeof message, 0, 0, receipt, LSH_RECEIPT_BYTES) == LSH_ACCEPTED, "lsh_whole refuses n = %" PRIu64, n);
+    const uint8_t message[2] = {(uint8_t)below(2), (uint8_t)below(2)};
+    size_t message_len = below(sizeof message + 1);
+    check(lsh_whole(w, n, message, message_len, 0, 0, receipt, LSH_RECEIPT_BYTES) == LSH_ACCEPTED, "lsh_whole refuses n = %" PRIu64, n);
     check(is_well_formed(receipt), "lsh_whole writes a malformed receipt, n = %" PRIu64, n);
 }
 
@@ -169,9 +170,41 @@ static void try_every_byte(void)
     }
 }
 
+static const uint64_t tried_bit_lengths[] = {
+    0, 1, 7, 8, 0x100, TWO_TO_32 - 1, TWO_TO_32, LSH_MOST_BITS - 8, LSH_MOST_BITS - 1, LSH_MOST_BITS, LSH_MOST_BITS + 1, LSH_MOST_BITS + 8,
+    2 * LSH_MOST_BITS, TWO_TO_63, UINT64_MAX,
+};
+
+/* Receipts that differ in the length alone are not the same, and each is a first in a list; above the limit they are malformed. */
+static void try_bit_lengths(void)
+{
+    fill(&one);
+    fill(&other);
+    uint8_t *receipt = buffer(&one);
+    write_receipt(receipt);
+    memcpy(buffer(&other), receipt, LSH_RECEIPT_BYTES);
+    for (size_t a = 0; a < COUNT(tried_bit_lengths); a++) {
+        for (size_t b = 0; b < COUNT(tried_bit_lengths); b++) {
+            put_length(receipt, tried_bit_lengths[a]);
+            put_length(buffer(&other), tried_bit_lengths[b]);
+            same(&one, LSH_RECEIPT_BYTES, &other, LSH_RECEIPT_BYTES);
+            memcpy(receipt + LSH_RECEIPT_BYTES, buffer(&other), LSH_RECEIPT_BYTES);
+            tally(&one, 2 * LSH_RECEIPT_BYTES);
+        }
+    }
+    /* Each bit of a length alone, up to the highest that it can have. */
+    uint8_t *end = receipt;
+    for (uint64_t bits = 1; bits <= LSH_MOST_BITS; bits *= 2) {
+        memcpy(end, buffer(&other), LSH_RECEIPT_BYTES);
+        put_length(end, bits);
+        end += LSH_RECEIPT_BYTES;
+    }
+    tally(&one, (size_t)(end - receipt));
+}
+
 static const size_t tried_lengths[] = {
-    0, 1, LSH_RECEIPT_BYTES - 1, LSH_RECEIPT_BYTES, LSH_RECEIPT_BYTES + 1, 2 * LSH_RECEIPT_BYTES, TWO_TO_32 + LSH_RECEIPT_BYTES,
-    TWO_TO_63 + LSH_RECEIPT_BYTES, SIZE_MAX,
+    0, 1, LSH_LENGTH_PLACE, LSH_RECEIPT_BYTES - 1, LSH_RECEIPT_BYTES, LSH_RECEIPT_BYTES + 1, 2 * LSH_RECEIPT_BYTES,
+    TWO_TO_32 + LSH_RECEIPT_BYTES, TWO_TO_63 + LSH_RECEIPT_BYTES, SIZE_MAX,
 };
 
 static void try_lengths(void)
@@ -215,6 +248,7 @@ int main(void)
     fill(&place);
     try_pairs();
     try_every_byte();
+    try_bit_lengths();
     try_lengths();
     for (int i = 0; i < ROUNDS; i++) {
         try_list(below(20));

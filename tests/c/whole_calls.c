@@ -51,14 +51,17 @@ static bool all_zero(const uint8_t *bytes, size_t count)
 /* Checks all of a receipt but the n bits of its digest. */
 static void check_layout(const struct arguments *given, const uint8_t *receipt, const char *said)
 {
-    const uint8_t first[4] = {(uint8_t)given->w, 0, (uint8_t)given->n, (uint8_t)(given->n >> 8)};
-    size_t digest_end = sizeof first + (given->n + 7) / 8;
+    const uint8_t first[LSH_DIGEST_PLACE] = {(uint8_t)given->w, 0, (uint8_t)given->n, (uint8_t)(given->n >> 8)};
+    size_t digest_end = LSH_DIGEST_PLACE + (given->n + 7) / 8;
     bool whole_bytes = given->n % 8 == 0;
+    uint64_t bits = 8 * given->message_len + given->e;
     check(memcmp(receipt, first, sizeof first) == 0, "%s does not write w, 0 and n to bytes 0 to 3", said);
     check(whole_bytes || (receipt[digest_end - 1] & low_bits(given->n % 8)) == 0,
           "%s sets a bit of the digest's last byte after the first n", said);
-    check(all_zero(receipt + digest_end, LSH_RECEIPT_BYTES - digest_end), "%s writes other than 0 after the digest",
+    check(all_zero(receipt + digest_end, LSH_LENGTH_PLACE - digest_end), "%s writes other than 0 after the digest",
           said);
+    check(length_on(receipt) == bits, "%s writes a length of %" PRIu64 " bits, not %" PRIu64, said, length_on(receipt),
+          bits);
 }
 
 /* Makes one call and checks its answer, that it writes nothing but the receipt, and that only if it accepts, and the
@@ -126,7 +129,7 @@ static void try_published_digest(const struct published *known)
     make_call(&given, &message, &output);
 
     char digest[2 * LSH_RECEIPT_BYTES + 1];
-    write_hexadecimal(buffer(&output) + 4, known->n / 8, digest);
+    write_hexadecimal(buffer(&output) + LSH_DIGEST_PLACE, known->n / 8, digest);
     check(strcmp(digest, known->digest) == 0, "the digest of \"abc\", w = %" PRIu64 ", n = %" PRIu64 ", is %s, not %s",
           known->w, known->n, digest, known->digest);
 }

@@ -2,7 +2,8 @@
 
 use compare::roll::{roll_bytes, MOST_SLOTS};
 use compare::{
-    append, append_roll, block_backward, block_forward, open, rewind, tally, whole, Record, ACCEPTED, RECEIPT_BYTES,
+    append, append_roll, block_backward, block_forward, open, rewind, tally, whole, Record, ACCEPTED, DIGEST_PLACE,
+    RECEIPT_BYTES,
 };
 use lsh_ref::Word;
 
@@ -136,9 +137,9 @@ pub fn digest_bits<W: Word>() -> u64 {
     8 * W::BITS as u64
 }
 
-/// The bytes of a receipt that have the longest digest: all w after the first four.
+/// The bytes of a receipt that have the longest digest, as many as w.
 pub fn digest_part<W: Word>(receipt: &mut [u8; RECEIPT_BYTES]) -> &mut [u8] {
-    &mut receipt[4..4 + W::BITS]
+    &mut receipt[DIGEST_PLACE..][..W::BITS]
 }
 
 fn module_hash<W: Word>(message: &[u8], receipt: &mut [u8; RECEIPT_BYTES]) {

@@ -1,12 +1,14 @@
 //! Tally over as many receipts as it takes.
 
 use crate::peers::module_tally;
-use compare::{Random, RECEIPT_BYTES};
+use compare::{receipt, Random, MOST_RECEIPTS};
 use std::hint::black_box;
 use std::time::{Duration, Instant};
 
-const MOST: usize = 960;
 const ROUNDS: usize = 300;
+
+/// The length of a picture of 1 MiB, in bits.
+const PICTURE: u64 = 8 << 20;
 
 struct List {
     what: &'static str,
@@ -14,17 +16,13 @@ struct List {
     firsts: usize,
 }
 
-/// Receipts of LSH-512-512 with the given digests.
-fn list(what: &'static str, firsts: usize, mut digest: impl FnMut(usize) -> Vec<u8>) -> List {
-    let mut receipts = Vec::with_capacity(MOST * RECEIPT_BYTES);
-    for place in 0..MOST {
-        receipts.extend([64, 0, 0, 2]);
-        receipts.extend(digest(place));
-    }
+/// Receipts of LSH-512-512 with the given digests and lengths in bits.
+fn list(what: &'static str, firsts: usize, parts: impl FnMut(usize) -> (Vec<u8>, u64)) -> List {
+    let receipts = (0..MOST_RECEIPTS).map(parts).flat_map(|(digest, bits)| receipt(64, 512, &digest, bits)).collect();
     List { what, receipts, firsts }
 }
 
-fn lists() -> [List; 4] {
+fn lists() -> [List; 5] {
     let mut random = Random::new(2);
     let base = random.bytes(64);
     let ending_in = |number: usize| {
@@ -33,16 +31,17 @@ fn lists() -> [List; 4] {
         digest
     };
     [
-        list("all different", MOST, |_| random.bytes(64)),
-        list("all different, by their last two bytes", MOST, ending_in),
-        list("each twice", MOST / 2, |place| ending_in(place / 2)),
-        list("all the same", 1, |_| base.clone()),
+        list("all different", MOST_RECEIPTS, |_| (random.bytes(64), PICTURE)),
+        list("all different, by the digests' ends", MOST_RECEIPTS, |place| (ending_in(place), PICTURE)),
+        list("all different, by the lengths", MOST_RECEIPTS, |place| (base.clone(), PICTURE + place as u64)),
+        list("each twice", MOST_RECEIPTS / 2, |place| (ending_in(place / 2), PICTURE)),
+        list("all the same", 1, |_| (base.clone(), PICTURE)),
     ]
 }
 
 /// Counts each list, checks the firsts, and prints the best time.
 pub fn print() {
-    println!("\nTally of {MOST} receipts, best of {ROUNDS} rounds:\n");
+    println!("\nTally of {MOST_RECEIPTS} receipts, best of {ROUNDS} rounds:\n");
     println!("| receipts                               |   ms |");
     println!("|:---------------------------------------|-----:|");
     for List { what, receipts, firsts } in lists() {

@@ -1,42 +1,85 @@
--- Same says yes exactly if it takes both receipts and they are one byte string.
+-- Two well-formed receipts are the same exactly if all their bytes agree, and Same says so.
 -- Assumes nothing.
-use mathlib.Core.Path.{_≡_, refl, sym, ap, _∙_}
+use mathlib.Core.Path.{_≡_, refl, sym, ap, ap₂, _∙_}
 use mathlib.Core.Bool.{Bool, true, false, not, cond, _&&_, false≢true}
 use mathlib.Core.List.{List}
 use Prim.Native.Nat.{ℕ}
 use native.Mathlib.Omega.{arith}
+use borrow.Author.Tests.{eqb-true, eq-eqb}
+use lib.Dec.{eqb}
+use lib.ListN.{length}
+use Rattle.lsh.proofs.Tests.{and-true}
+use Rattle.lsh.proofs.Bytes.{Bytes}
 use Rattle.equal.specs.Equal.{equal}
 use Rattle.equal.proofs.Equal.{equal-self, equal-true}
+use Rattle.finalization.specs.Receipt.{receiptBytes}
 use Rattle.same.specs.declared.Sameness.{Sameness}
-use Rattle.same.specs.WellFormed.{wellFormed}
-use Rattle.same.specs.Same.{isReceiptLong, sameCall}
+use Rattle.same.specs.Parts.{wordSizeOf, digestLengthOf, digestOf, bitLengthOf}
+use Rattle.same.specs.WellFormed.{wellFormed, IsReceipt}
+use Rattle.same.specs.Same.{sameReceipt, isReceiptLong, sameCall}
+use Rattle.same.proofs.Formed.{made, made-of-parts}
 
--- the answer by its two tests
+pub same-self : (r : List ℕ) → sameReceipt r r ≡ true
+unfolding sameReceipt
+same-self r =
+    rw (eq-eqb (wordSizeOf r) (wordSizeOf r) refl, eq-eqb (digestLengthOf r) (digestLengthOf r) refl, equal-self (digestOf r), eq-eqb (bitLengthOf r) (bitLengthOf r) refl)
+
+module _ {a b : List ℕ} (ra : IsReceipt a) (rb : IsReceipt b) where
+  same-bytes : sameReceipt a b ≡ true → a ≡ b
+  unfolding sameReceipt
+  same-bytes e =
+      let w : Bool = eqb (wordSizeOf a) (wordSizeOf b) in
+      let n : Bool = eqb (digestLengthOf a) (digestLengthOf b) in
+      let d : Bool = equal (digestOf a) (digestOf b) in
+      let l : Bool = eqb (bitLengthOf a) (bitLengthOf b) in
+      let p3 : (w && n && d ≡ true) × (l ≡ true) = and-true (w && n && d) l e in
+      let p2 : (w && n ≡ true) × (d ≡ true) = and-true (w && n) d (p3 .0) in
+      let p1 : (w ≡ true) × (n ≡ true) = and-true w n (p2 .0) in
+      made-of-parts ra
+      ∙ ap₂ (λ (x y : ℕ). made x y (digestOf a) (bitLengthOf a)) (eqb-true (wordSizeOf a) (wordSizeOf b) (p1 .0)) (eqb-true (digestLengthOf a) (digestLengthOf b) (p1 .1))
+      ∙ ap₂ (λ (x : List ℕ) (y : ℕ). made (wordSizeOf b) (digestLengthOf b) x y) (equal-true (digestOf a) (digestOf b) (p2 .1)) (eqb-true (bitLengthOf a) (bitLengthOf b) (p3 .1))
+      ∙ sym (made-of-parts rb)
+
+  pub same-is-equal : sameReceipt a b ≡ equal a b
+  same-is-equal = go (sameReceipt a b) (equal a b) refl refl
+    where
+      go : (s t : Bool) → sameReceipt a b ≡ s → equal a b ≡ t → s ≡ t
+      go true true is eq = refl
+      go false false is eq = refl
+      go true false is eq = absurd (false≢true (sym eq ∙ ap (equal a) (sym (same-bytes is)) ∙ equal-self a))
+      go false true is eq = absurd (false≢true (sym is ∙ ap (sameReceipt a) (sym (equal-true a b eq)) ∙ same-self a))
+
+-- Same, by its two tests
 abbrev answer : Bool → Bool → Bool → Sameness
-answer long formed agree =
-    cond (not long) (record { number = 13; same = false }) (cond (not formed) (record { number = 14; same = false }) (record { number = 0; same = agree }))
+answer long form agree =
+    cond (not long) (record { number = 13; same = false }) (cond (not form) (record { number = 14; same = false }) (record { number = 0; same = agree }))
 
 module _ (a b : List ℕ) where
-  pub yes-equal : sameCall a b .same ≡ true → a ≡ b
-  unfolding sameCall
-  yes-equal said = equal-true a b (go (isReceiptLong a && isReceiptLong b) (wellFormed a && wellFormed b) said)
+  -- it says yes only of two well-formed receipts, and then all their bytes agree
+  pub yes-equal : Bytes a → Bytes b → sameCall a b .same ≡ true → a ≡ b
+  unfolding sameCall isReceiptLong
+  yes-equal ba bb said =
+      let l : Bool = isReceiptLong a && isReceiptLong b in
+      let f : Bool = wellFormed a && wellFormed b in
+      let all : (l ≡ true) × (f ≡ true) × (sameReceipt a b ≡ true) = go l f said in
+      let long : (isReceiptLong a ≡ true) × (isReceiptLong b ≡ true) = and-true (isReceiptLong a) (isReceiptLong b) (all .0) in
+      let form : (wellFormed a ≡ true) × (wellFormed b ≡ true) = and-true (wellFormed a) (wellFormed b) (all .1) in
+      same-bytes
+      (record { long = eqb-true (length a) receiptBytes (long .0); bytes = ba; form = form .0 })
+      (record { long = eqb-true (length b) receiptBytes (long .1); bytes = bb; form = form .1 })
+      (all .2)
     where
-      go : (long formed : Bool) → answer long formed (equal a b) .same ≡ true → equal a b ≡ true
-      go true true is = is
+      go : (long form : Bool) → answer long form (sameReceipt a b) .same ≡ true → (long ≡ true) × (form ≡ true) × (sameReceipt a b ≡ true)
+      go true true is = (refl, refl, is)
       go true false is = absurd (false≢true is)
-      go false formed is = absurd (false≢true is)
+      go false form is = absurd (false≢true is)
 
   pub equal-yes : sameCall a b .number ≡ 0 → a ≡ b → sameCall a b .same ≡ true
   unfolding sameCall
   equal-yes taken e =
-      go (isReceiptLong a && isReceiptLong b) (wellFormed a && wellFormed b) taken ∙ ap (λ (s : List ℕ). equal a s) (sym e) ∙ equal-self a
+      go (isReceiptLong a && isReceiptLong b) (wellFormed a && wellFormed b) taken ∙ ap (sameReceipt a) (sym e) ∙ same-self a
     where
-      go : (long formed : Bool) → answer long formed (equal a b) .number ≡ 0 → answer long formed (equal a b) .same ≡ equal a b
+      go : (long form : Bool) → answer long form (sameReceipt a b) .number ≡ 0 → answer long form (sameReceipt a b) .same ≡ sameReceipt a b
       go true true is = refl
       go true false is = absurd (omega arith)
-      go false formed is = absurd (omega arith)
-
--- a receipt is the same as itself
-pub same-self : (r : List ℕ) → isReceiptLong r ≡ true → wellFormed r ≡ true → sameCall r r ≡ record { number = 0; same = true }
-unfolding sameCall
-same-self r long formed = rw (long, formed, equal-self r)
+      go false form is = absurd (omega arith)

@@ -1,4 +1,5 @@
 -- Laws of Same, and of the form of a receipt.
 pub mod Compared
+pub mod Formed
 pub mod Agreement
 pub mod Written

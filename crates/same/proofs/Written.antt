@@ -1,30 +1,32 @@
--- Every receipt that Whole or Close writes is well formed.
+-- Every receipt that Whole or Close writes is well formed, and its four parts are read back from it.
 -- Assumes nothing.
-use mathlib.Core.Path.{_≡_, refl, sym, ap, _∙_}
+use mathlib.Core.Path.{_≡_, refl, sym, ap, _∙_, subst}
 use mathlib.Core.Bool.{Bool, true, false}
 use mathlib.Core.List.{List, [], _∷_, _++_}
-use Prim.Native.Nat.{ℕ, suc, _+_, _-_, _*_, _/_, _%_, _^_, _≤_}
+use Prim.Native.Nat.{ℕ, suc, _+_, _-_, _*_, _/_, _%_, _^_, _≤_, _<_}
 use native.Mathlib.Nat.{zero-mod, suc-add, mul-add-mod-self-right}
 use native.Mathlib.Omega.{arith}
-use borrow.Author.Tests.{eq-eqb, eqb-false}
+use borrow.Author.Tests.{eq-eqb, eqb-false, le-leb}
 use lib.Pow.{pow-add}
 use lib.Dec.{eqb}
-use lib.ListN.{length, take, drop, replicate, length-append, length-drop, length-replicate}
-use lib.Seq.{length-take-le, take-at, drop-at}
-use Rattle.lsh.specs.Tabulate.{at}
+use lib.ListN.{length, take, drop, replicate, length-append, length-drop, length-replicate, List·getD-append}
+use lib.Seq.{length-take-le, take-at, drop-at, drop-append-le, take-append-le, getD-append-add}
+use Rattle.lsh.specs.Tabulate.{at, tabulate}
 use Rattle.lsh.specs.WordSize.{isWordSize, sizeOf}
+use Rattle.lsh.specs.Bytes.{wordAt, byteAt}
 use Rattle.lsh.specs.Bits.{bitsOf, numberOf, bytesOfBits}
 use Rattle.lsh.specs.Hash.{finalBytes, digest, hash, lsh}
 use Rattle.lsh.proofs.Tabulate.{length-tabulate, at-tabulate}
 use Rattle.lsh.proofs.Figures.{bits-are}
-use Rattle.lsh.proofs.Bytes.{octets}
+use Rattle.lsh.proofs.Bytes.{octets, word-bytes}
 use Rattle.message.proofs.Bits.{length-bits, number-zeros}
-use Rattle.runs.specs.Limits.{longestDigest, isDigestLength}
+use Rattle.runs.specs.Limits.{longestDigest, isDigestLength, limit}
+use Rattle.runs.specs.ZeroFilled.{zeroFilled}
 use Rattle.runs.proofs.Limits.{digest-most, digest-longest}
-use Rattle.finalization.specs.Receipt.{receiptBytes, digestPlace, receipt}
-use Rattle.finalization.specs.Ending.{messageBits}
-use Rattle.finalization.proofs.FinalBytes.{length-final}
-use Rattle.finalization.proofs.Receipts.{at-receipt}
+use Rattle.finalization.specs.Receipt.{receiptBytes, digestPlace, lengthPlace, receipt}
+use Rattle.finalization.specs.Ending.{messageBits, mostBits}
+use Rattle.finalization.proofs.FinalBytes.{length-final, at-append-zeros}
+use Rattle.finalization.proofs.Ending.{message-length}
 use Rattle.record.specs.declared.Record.{Record}
 use Rattle.record.specs.Record.{allZero}
 use Rattle.record.proofs.Sound.{sounds}
@@ -33,7 +35,8 @@ use Rattle.whole.specs.Whole.{wholeAnswer, wholeOutput}
 use Rattle.whole.proofs.Answers as whole-answers
 use Rattle.close.specs.Close.{closeAnswer, closedDigest, closeOutput}
 use Rattle.close.proofs.Answers as close-answers
-use Rattle.same.specs.WellFormed.{lengthOf, unusedZero, wellFormed}
+use Rattle.same.specs.Parts.{wordSizeOf, digestLengthOf, digestOf, bitLengthOf}
+use Rattle.same.specs.WellFormed.{unusedZero, zeroAfter, wellFormed}
 use Rattle.same.specs.Same.{isReceiptLong}
 
 -- the bits that are not there count as 0
@@ -47,7 +50,16 @@ low-zero (true ∷ m) k =
     ∙ low-zero m k
 low-zero (false ∷ m) k = ap (λ (j : ℕ). numberOf j (false ∷ m) % 2 ^ k) (suc-add (length m) k) ∙ low-zero m k
 
-module _ (w n : ℕ) (d : List Bool) (word : isWordSize w ≡ true) (digestLength : isDigestLength w n ≡ true) (size : length d ≡ n) where
+-- r is well formed, and of this word size, digest and message length
+pub record Written (w n : ℕ) (d : List Bool) (bits : ℕ) (r : List ℕ) : Type 0 where
+  pub long : isReceiptLong r ≡ true
+  pub form : wellFormed r ≡ true
+  pub wordSize : wordSizeOf r ≡ w
+  pub digestLength : digestLengthOf r ≡ n
+  pub digest : digestOf r ≡ bytesOfBits d
+  pub bitLength : bitLengthOf r ≡ bits
+
+module _ (w n : ℕ) (d : List Bool) (bits : ℕ) (word : isWordSize w ≡ true) (digestLength : isDigestLength w n ≡ true) (size : length d ≡ n) (few : bits ≤ mostBits) where
   abbrev bytes : List ℕ
   bytes = bytesOfBits d
 
@@ -55,28 +67,61 @@ module _ (w n : ℕ) (d : List Bool) (word : isWordSize w ≡ true) (digestLengt
   front = w ∷ 0 ∷ n % 256 ∷ n / 256 ∷ bytes
 
   abbrev zeros : List ℕ
-  zeros = replicate (receiptBytes - length front) 0
+  zeros = replicate (lengthPlace - length front) 0
 
-  front-length : length front ≡ digestPlace + (n + 7) / 8
+  abbrev tail : List ℕ
+  tail = tabulate 8 (byteAt bits)
+
+  abbrev r : List ℕ
+  r = receipt w n d bits
+
+  bytes-length : length bytes ≡ (n + 7) / 8
   unfolding bytesOfBits
-  front-length =
-      let e : length bytes ≡ (length d + 7) / 8 = length-tabulate ((length d + 7) / 8) (λ l. numberOf 8 (drop (8 * l) d)) in
-      omega arith
+  bytes-length = length-tabulate ((length d + 7) / 8) (λ l. numberOf 8 (drop (8 * l) d)) ∙ ap (λ (k : ℕ). (k + 7) / 8) size
 
-  few : n ≤ longestDigest 64
-  few = digest-longest w n word digestLength
+  short : n ≤ longestDigest 64
+  short = digest-longest w n word digestLength
 
-  pub receipt-long : length (receipt w n d) ≡ receiptBytes
+  front-long : length (front ++ zeros) ≡ lengthPlace
+  front-long = length-append front zeros ∙ omega (arith, bytes-length, short, length-replicate {A = ℕ} (lengthPlace - length front) 0)
+
+  receipt-long : length r ≡ receiptBytes
   unfolding receipt receiptBytes
-  receipt-long =
-      length-append front (replicate (receiptBytes - length front) 0)
-      ∙ omega (arith, front-length, few, length-replicate {A = ℕ} (receiptBytes - length front) 0)
+  receipt-long = length-append (front ++ zeros) tail ∙ omega (arith, front-long, length-tabulate 8 (byteAt bits))
 
-  length-is : lengthOf (receipt w n d) ≡ n
-  unfolding lengthOf receipt
+  -- the parts
+
+  word-is : wordSizeOf r ≡ w
+  unfolding wordSizeOf receipt
+  word-is = refl
+
+  length-is : digestLengthOf r ≡ n
+  unfolding digestLengthOf wordAt receipt
   length-is = omega arith
 
-  last-byte : (n % 8 ≡ 0 → ⊥) → at (receipt w n d) (digestPlace + n / 8) % 2 ^ (8 - n % 8) ≡ 0
+  digest-is : digestOf r ≡ bytes
+  unfolding digestOf receipt
+  digest-is =
+      ap (λ (k : ℕ). take ((k + 7) / 8) (bytes ++ zeros ++ tail)) length-is
+      ∙ take-append-le ((n + 7) / 8) (bytes ++ zeros) tail (omega (arith, bytes-length, length-append bytes zeros))
+      ∙ take-at bytes zeros ((n + 7) / 8) bytes-length
+
+  bits-are-read : bitLengthOf r ≡ bits
+  unfolding bitLengthOf receipt mostBits limit
+  bits-are-read =
+      word-bytes 8 r lengthPlace bits (omega arith)
+      (λ i lt.
+      ap (λ (k : ℕ). at (front ++ zeros ++ tail) (k + i)) (sym front-long)
+      ∙ getD-append-add (front ++ zeros) tail i 0
+      ∙ at-tabulate 8 (byteAt bits) i lt)
+
+  -- the form
+
+  at-front : (j : ℕ) → j < lengthPlace → at r j ≡ at front j
+  unfolding receipt
+  at-front j lt = List·getD-append (front ++ zeros) tail 0 j (rw front-long lt) ∙ at-append-zeros front (lengthPlace - length front) j
+
+  last-byte : (n % 8 ≡ 0 → ⊥) → at r (digestPlace + n / 8) % 2 ^ (8 - n % 8) ≡ 0
   unfolding bytesOfBits
   last-byte some =
       let m : List Bool = drop (8 * (n / 8)) d in
@@ -84,41 +129,48 @@ module _ (w n : ℕ) (d : List Bool) (word : isWordSize w ≡ true) (digestLengt
       let eight : 8 ≡ length m + (8 - n % 8) = omega arith in
       let place : digestPlace + n / 8 ≡ suc (suc (suc (suc (n / 8)))) = omega arith in
       ap (λ (x : ℕ). x % 2 ^ (8 - n % 8))
-      (sym (at-receipt w n d (suc (suc (suc (suc (n / 8))))) place) ∙ at-tabulate ((length d + 7) / 8) (λ l. numberOf 8 (drop (8 * l) d)) (n / 8) (omega arith)
+      (at-front (digestPlace + n / 8) (omega (arith, short)) ∙ ap (at front) place
+      ∙ at-tabulate ((length d + 7) / 8) (λ l. numberOf 8 (drop (8 * l) d)) (n / 8) (omega arith)
       ∙ ap (λ (j : ℕ). numberOf j m) eight)
       ∙ low-zero m (8 - n % 8)
 
-  unused-zero : unusedZero (receipt w n d) n ≡ true
+  unused-zero : unusedZero r n ≡ true
   unfolding unusedZero
   unused-zero = go (eqb (n % 8) 0) refl
     where
-      go : (b : Bool) → eqb (n % 8) 0 ≡ b → unusedZero (receipt w n d) n ≡ true
+      go : (b : Bool) → eqb (n % 8) 0 ≡ b → unusedZero r n ≡ true
       go true is = rw is
-      go false is = rw (is, eq-eqb (at (receipt w n d) (digestPlace + n / 8) % 2 ^ (8 - n % 8)) 0 (last-byte (eqb-false (n % 8) 0 is)))
+      go false is = rw (is, eq-eqb (at r (digestPlace + n / 8) % 2 ^ (8 - n % 8)) 0 (last-byte (eqb-false (n % 8) 0 is)))
 
-  zero-after : allZero (drop (digestPlace + (n + 7) / 8) (receipt w n d)) ≡ true
-  unfolding receipt
-  zero-after = ap allZero (drop-at front zeros (digestPlace + (n + 7) / 8) front-length) ∙ all-zero (receiptBytes - length front)
+  zero-after : zeroAfter r n ≡ true
+  unfolding zeroAfter receipt
+  zero-after =
+      let ends : length front ≡ digestPlace + (n + 7) / 8 = omega (arith, bytes-length) in
+      ap (λ (s : List ℕ). allZero (drop (digestPlace + (n + 7) / 8) s)) (take-at (front ++ zeros) tail lengthPlace front-long)
+      ∙ ap allZero (drop-at front zeros (digestPlace + (n + 7) / 8) ends)
+      ∙ all-zero (lengthPlace - length front)
 
-  byte-0 : at (receipt w n d) 0 ≡ w
-  unfolding receipt
-  byte-0 = refl
-
-  byte-1 : at (receipt w n d) 1 ≡ 0
+  byte-1 : at r 1 ≡ 0
   unfolding receipt
   byte-1 = refl
 
-  pub receipt-well-formed : wellFormed (receipt w n d) ≡ true
+  well-formed : wellFormed r ≡ true
   unfolding wellFormed
-  receipt-well-formed = rw (byte-0, byte-1, length-is, word, digestLength, unused-zero) zero-after
+  well-formed = rw (word-is, byte-1, length-is, bits-are-read, word, digestLength, unused-zero, zero-after) (le-leb bits mostBits few)
 
   -- at the front of an output
-  pub front-taken : (rest : List ℕ) {output : List ℕ} → output ≡ receipt w n d ++ rest
-      → (isReceiptLong (take receiptBytes output) ≡ true) × (wellFormed (take receiptBytes output) ≡ true)
+  pub at-front-of : (rest : List ℕ) {output : List ℕ} → output ≡ receipt w n d bits ++ rest → Written w n d bits (take receiptBytes output)
   unfolding isReceiptLong
-  front-taken rest is =
-      let e : take receiptBytes (receipt w n d ++ rest) ≡ receipt w n d = take-at (receipt w n d) rest receiptBytes receipt-long in
-      rw (is, e) (eq-eqb (length (receipt w n d)) receiptBytes receipt-long, receipt-well-formed)
+  at-front-of rest is =
+      subst (Written w n d bits) (sym (ap (take receiptBytes) is ∙ take-at r rest receiptBytes receipt-long))
+      record {
+        long = eq-eqb (length r) receiptBytes receipt-long;
+        form = well-formed;
+        wordSize = word-is;
+        digestLength = length-is;
+        digest = digest-is;
+        bitLength = bits-are-read;
+      }
 
 digest-long : (w n : ℕ) (t : List ℕ) → isWordSize w ≡ true → isDigestLength w n ≡ true → length (digest (sizeOf w) n t) ≡ n
 unfolding digest
@@ -127,21 +179,27 @@ digest-long w n t word digestLength =
     length-take-le n (bitsOf h)
     (omega (arith, digest-most w n digestLength, length-bits h, length-final (sizeOf w) (octets w) t, bits-are w word))
 
--- Same and Tally take what an accepted Whole writes, and what an accepted Close writes
-pub whole-taken : (w n : ℕ) (m : List ℕ) (last e : ℕ) (output : List ℕ) → wholeAnswer w n (length m) last e (length output) ≡ 0
-    → (isReceiptLong (take receiptBytes (wholeOutput w n m last e output)) ≡ true) × (wellFormed (take receiptBytes (wholeOutput w n m last e output)) ≡ true)
-unfolding wholeOutput lsh hash
-whole-taken w n m last e output is =
+-- what an accepted Whole writes, and what an accepted Close writes
+
+pub whole-written : (w n : ℕ) (m : List ℕ) (last e : ℕ) (output : List ℕ) → wholeAnswer w n (length m) last e (length output) ≡ 0
+    → Written w n (lsh w n (messageBits m last e)) (length (messageBits m last e)) (take receiptBytes (wholeOutput w n m last e output))
+unfolding wholeOutput lsh hash mostBits
+whole-written w n m last e output is =
     let a = whole-answers.accepted w n (length m) last e (length output) is in
-    front-taken w n (lsh w n (messageBits m last e)) (a .wordSize) (a .digestLength) (digest-long w n _ (a .wordSize) (a .digestLength))
+    at-front-of w n (lsh w n (messageBits m last e)) (length (messageBits m last e)) (a .wordSize) (a .digestLength)
+    (digest-long w n _ (a .wordSize) (a .digestLength))
+    (omega (arith, message-length m last e (a .end .extra), a .within, a .end .extra))
     (drop receiptBytes output)
     (rw (eq-eqb (wholeAnswer w n (length m) last e (length output)) 0 is))
 
-pub close-taken : (r : Record) (last e : ℕ) (output : List ℕ) → closeAnswer r last e (length output) ≡ 0
-    → (isReceiptLong (take receiptBytes (closeOutput r last e output)) ≡ true) × (wellFormed (take receiptBytes (closeOutput r last e output)) ≡ true)
-unfolding closeOutput closedDigest
-close-taken r last e output is =
-    let a = sounds r (close-answers.accepted r last e (length output) is .taken) in
-    front-taken (r .w) (r .n) (closedDigest r last e) (a .word) (a .digestLength) (digest-long (r .w) (r .n) _ (a .word) (a .digestLength))
+pub close-written : (r : Record) (last e : ℕ) (output : List ℕ) → closeAnswer r last e (length output) ≡ 0
+    → Written (r .w) (r .n) (closedDigest r last e) (8 * r .total + e) (take receiptBytes (closeOutput r last e output))
+unfolding closeOutput closedDigest mostBits
+close-written r last e output is =
+    let a = close-answers.accepted r last e (length output) is in
+    let s = sounds r (a .taken) in
+    at-front-of (r .w) (r .n) (closedDigest r last e) (8 * r .total + e) (s .word) (s .digestLength)
+    (digest-long (r .w) (r .n) _ (s .word) (s .digestLength))
+    (omega (arith, s .few, a .end .extra))
     (drop receiptBytes output)
     (rw (eq-eqb (closeAnswer r last e (length output)) 0 is))

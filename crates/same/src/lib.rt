@@ -4,10 +4,12 @@ ghost use Prim.Native.Nat.{_≤_};
 ghost use lib.ListN.{length};
 ghost use Rattle.runs.specs.Limits.{longestDigest};
 ghost use Rattle.finalization.specs.Receipt.{receiptBytes};
-ghost use Rattle.equal.specs.Equal.{equal};
-ghost use Rattle.same.specs.WellFormed.{lengthOf, unusedZero, wellFormed};
-ghost use Rattle.same.specs.Same.{sameCall};
+ghost use Rattle.same.specs.Parts.{digestLengthOf, bitLengthOf};
+ghost use Rattle.same.specs.WellFormed.{unusedZero, zeroAfter, wellFormed, IsReceipt};
+ghost use Rattle.same.specs.Same.{sameReceipt, sameCall};
 use finalization::DIGEST;
+use finalization::LENGTH;
+use finalization::MOST_BITS;
 use finalization::RECEIPT;
 
 // The answer to Same: its number, and whether the two receipts are the same. C has it as lsh_sameness.
@@ -52,10 +54,11 @@ pub fn same(a: &[u8], b: &[u8]) -> Sameness
     }
 }
 
-// Whether all bytes of two receipts agree. No byte ends the loop early, so that the compiler compares many at once.
+// Whether two well-formed receipts are the same: all their bytes agree. No byte ends the loop early, so that the compiler compares many at
+// once.
 pub fn all_agree(a: &[u8], b: &[u8]) -> bool
-    requires { ⌜ (length (now a) ≡ receiptBytes) × (length (now b) ≡ receiptBytes) ⌝ }
-    ensures { λ r. ⌜ r ≡ equal (now (a .entry)) (now (b .entry)) ⌝ }
+    requires { ⌜ IsReceipt (now a) × IsReceipt (now b) ⌝ }
+    ensures { λ r. ⌜ r ≡ sameReceipt (now (a .entry)) (now (b .entry)) ⌝ }
 {
     let mut differ: u8 = 0;
     for i in 0..RECEIPT {
@@ -66,7 +69,7 @@ pub fn all_agree(a: &[u8], b: &[u8]) -> bool
     differ == 0
 }
 
-// Whether 68 bytes are a receipt that could have been written.
+// Whether as many bytes as a receipt has are a receipt that could have been written.
 pub fn is_well_formed(r: &[u8]) -> bool
     requires { ⌜ length (now r) ≡ receiptBytes ⌝ }
     ensures { λ b. ⌜ b ≡ wellFormed (now (r .entry)) ⌝ }
@@ -78,23 +81,33 @@ pub fn is_well_formed(r: &[u8]) -> bool
     if r[1] != 0 {
         return false;
     }
-    let n = length_of(r);
+    let n = digest_length_of(r);
     if !runs::is_digest_length(w, n) {
         return false;
     }
     if !is_unused_zero(r, n) {
         return false;
     }
-    let after = DIGEST + ((n + 7) / 8) as usize;
-    record::zero_from(r, after)
+    if !is_zero_after(r, n) {
+        return false;
+    }
+    bit_length_of(r) <= MOST_BITS
 }
 
 // n of a receipt.
-fn length_of(r: &[u8]) -> u64
+fn digest_length_of(r: &[u8]) -> u64
     requires { ⌜ length (now r) ≡ receiptBytes ⌝ }
-    ensures { λ n. ⌜ n ≡ lengthOf (now (r .entry)) ⌝ }
+    ensures { λ n. ⌜ n ≡ digestLengthOf (now (r .entry)) ⌝ }
 {
     r[2] as u64 + 256 * r[3] as u64
+}
+
+// The length in bits of the message that a receipt is of.
+pub fn bit_length_of(r: &[u8]) -> u64
+    requires { ⌜ length (now r) ≡ receiptBytes ⌝ }
+    ensures { λ l. ⌜ l ≡ bitLengthOf (now (r .entry)) ⌝ }
+{
+    word64::load(r, LENGTH)
 }
 
 // Whether the bits of the digest's last byte that it does not use are 0.
@@ -107,4 +120,13 @@ fn is_unused_zero(r: &[u8], n: u64) -> bool
     }
     let last = DIGEST + (n / 8) as usize;
     finalization::low_bits(r[last], (n % 8) as u32) == 0
+}
+
+// Whether each byte between the digest and the length is 0.
+fn is_zero_after(r: &[u8], n: u64) -> bool
+    requires { ⌜ (length (now r) ≡ receiptBytes) × (n ≤ longestDigest 64) ⌝ }
+    ensures { λ b. ⌜ b ≡ zeroAfter (now (r .entry)) n ⌝ }
+{
+    let after = DIGEST + ((n + 7) / 8) as usize;
+    record::zero_from(&r[..LENGTH], after)
 }

@@ -17,17 +17,33 @@ pub const MALFORMED: u32 = 14;
 pub const BAD_ROLL: u32 = 15;
 pub const FULL_ROLL: u32 = 16;
 
-/// Bytes of a receipt.
-pub const RECEIPT_BYTES: usize = 68;
+/// The most bytes of a message or of an order, and the most bits of a message.
+pub const MOST_BYTES: u64 = 1 << 40;
+pub const MOST_BITS: u64 = 8 * MOST_BYTES + 7;
 
-/// The receipt of a digest of n bits: w, 0, the two bytes of n, the digest and zeros.
-pub fn receipt(w: u64, n: u64, digest: &[u8]) -> Vec<u8> {
+/// Bytes of a receipt, and the most receipts of a list.
+pub const RECEIPT_BYTES: usize = 76;
+pub const MOST_RECEIPTS: usize = 960;
+
+/// Where the digest stands in a receipt, and where the length of the message in bits.
+pub const DIGEST_PLACE: usize = 4;
+pub const LENGTH_PLACE: usize = 68;
+
+/// The receipt of a digest of n bits, of a message of so many bits: w, 0, the two bytes of n, the digest, zeros and the
+/// length.
+pub fn receipt(w: u64, n: u64, digest: &[u8], bits: u64) -> Vec<u8> {
     assert_eq!(digest.len() as u64, n.div_ceil(8), "bytes of a digest of {n} bits");
     let mut receipt = vec![w as u8, 0];
     receipt.extend((n as u16).to_le_bytes());
     receipt.extend(digest);
-    receipt.resize(RECEIPT_BYTES, 0);
+    receipt.resize(LENGTH_PLACE, 0);
+    receipt.extend(bits.to_le_bytes());
     receipt
+}
+
+/// The length of the message in bits, as its receipt has it.
+pub fn bit_length(receipt: &[u8]) -> u64 {
+    u64::from_le_bytes(receipt[LENGTH_PLACE..RECEIPT_BYTES].try_into().unwrap())
 }
 
 /// The record of an order.
@@ -175,6 +191,11 @@ pub fn tally(list: &[u8]) -> Counts {
     unsafe { c::lsh_tally(list.as_ptr(), list.len()) }
 }
 
+/// The byte whose top e bits are the number `bits`; its other bits are 0.
+pub fn last_byte(bits: u64, e: u64) -> u8 {
+    (bits << (8 - e)) as u8
+}
+
 /// Random bytes (splitmix64), the same in every run, so that a failure can be repeated.
 pub struct Random {
     state: u64,
@@ -188,6 +209,11 @@ impl Random {
     /// A number from 0 to below the limit.
     pub fn below(&mut self, limit: u64) -> u64 {
         self.next() % limit
+    }
+
+    /// A last byte that goes with e: its low 8 - e bits are 0.
+    pub fn last_byte(&mut self, e: u64) -> u8 {
+        last_byte(self.below(1 << e), e)
     }
 
     fn next(&mut self) -> u64 {

@@ -4,7 +4,7 @@
 mod record;
 mod tape;
 
-use compare::{hex, receipt, Outcome, Random, Record, Script, ACCEPTED, RECEIPT_BYTES};
+use compare::{bit_length, hex, receipt, Outcome, Random, Record, Script, ACCEPTED, RECEIPT_BYTES};
 use lsh_ref::Word;
 use record::{record_line, record_of};
 use tape::{Answer, Tape};
@@ -139,12 +139,13 @@ const UNTOUCHED: [u8; RECEIPT_BYTES + 2] = [0xa5; RECEIPT_BYTES + 2];
 
 /// Such bytes with the receipt of the bytes and the top e bits of the last byte at their front, by lsh_ref.
 fn with_receipt<W: Word>(n: u64, bytes: &[u8], last: u8, e: u64) -> Vec<u8> {
-    let mut output = receipt(W::BITS as u64, n, &lsh_ref::hash_bits::<W>(n, bytes, last, e as u32));
+    let digest = lsh_ref::hash_bits::<W>(n, bytes, last, e as u32);
+    let mut output = receipt(W::BITS as u64, n, &digest, 8 * bytes.len() as u64 + e);
     output.extend(&UNTOUCHED[RECEIPT_BYTES..]);
     output
 }
 
-/// A random list of calls, with the record and a receipt after it.
+/// A random list of calls, with the record and the receipts after it: one for each number of bits after the bytes that remain.
 fn compare_list<W: Word>(calls: usize, random: &mut Random) {
     let n = 1 + random.below(8 * W::BITS as u64);
     let opened = compare::open(W::BITS as u64, n);
@@ -162,13 +163,17 @@ fn compare_list<W: Word>(calls: usize, random: &mut Random) {
         list.random_call();
     }
     let record = record_of::<W>(n, &list.tape.bytes);
-    let closed = with_receipt::<W>(n, &list.tape.bytes, 0xe8, 5);
     assert_eq!(list.record, record);
-    let mut output = UNTOUCHED;
-    assert_eq!(compare::close(list.record, 0xe8, 5, &mut output), ACCEPTED);
-    assert_eq!(output[..], closed);
     list.script.call("record", record_line(&record));
-    list.script.call(format!("close e8 5 {}", UNTOUCHED.len()), format!("close 0 {}", hex(&closed)));
+    for e in 0..=7 {
+        let last = list.random.last_byte(e);
+        let closed = with_receipt::<W>(n, &list.tape.bytes, last, e);
+        let mut output = UNTOUCHED;
+        assert_eq!(compare::close(list.record, last, e, &mut output), ACCEPTED);
+        assert_eq!(output[..], closed);
+        assert_eq!(bit_length(&output), 8 * list.tape.bytes.len() as u64 + e);
+        list.script.call(format!("close {last:02x} {e} {}", UNTOUCHED.len()), format!("close 0 {}", hex(&closed)));
+    }
 
     assert_eq!(list.forward, list.backward + list.tape.whole_blocks());
     list.script.compare(&format!("a list of calls, w = {}", W::BITS));

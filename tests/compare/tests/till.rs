@@ -1,14 +1,11 @@
 //! Same and Tally against a model written here: a receipt's form by its fields, and firsts by a set. Each call is made through the archive
 //! and once more through the program replay.
 
-use compare::{hex, replay, Counts, Random, Sameness, ACCEPTED, MALFORMED, NO_RECEIPTS, RECEIPT_BYTES};
+use compare::{
+    bit_length, hex, replay, Counts, Random, Sameness, ACCEPTED, DIGEST_PLACE, LENGTH_PLACE, MALFORMED, MOST_BITS,
+    MOST_RECEIPTS, NO_RECEIPTS, RECEIPT_BYTES,
+};
 use std::collections::HashSet;
-
-/// The most receipts of a list.
-const MOST: usize = 960;
-
-/// Bytes from a receipt's beginning to its digest.
-const FRONT: usize = 4;
 
 /// The answer of an accepted tally of no receipts.
 const NO_COUNTS: Counts = Counts { number: ACCEPTED, place: 0, firsts: 0, reprints: 0 };
@@ -16,25 +13,54 @@ const NO_COUNTS: Counts = Counts { number: ACCEPTED, place: 0, firsts: 0, reprin
 type Receipt = [u8; RECEIPT_BYTES];
 
 /// A well-formed receipt with a random digest.
-fn receipt(w: u8, n: u16, random: &mut Random) -> Receipt {
-    let mut receipt = [0; RECEIPT_BYTES];
-    receipt[0] = w;
-    receipt[2..FRONT].copy_from_slice(&n.to_le_bytes());
-    let end = FRONT + usize::from(n.div_ceil(8));
-    receipt[FRONT..end].copy_from_slice(&random.bytes(end - FRONT));
+fn receipt(w: u64, n: u64, bits: u64, random: &mut Random) -> Receipt {
+    let mut digest = random.bytes(n.div_ceil(8) as usize);
     if !n.is_multiple_of(8) {
-        receipt[end - 1] &= 0xff << (8 - n % 8);
+        *digest.last_mut().unwrap() &= 0xff << (8 - n % 8);
     }
+    compare::receipt(w, n, &digest, bits).try_into().unwrap()
+}
+
+/// The receipt with another length.
+fn with_length(mut receipt: Receipt, bits: u64) -> Receipt {
+    receipt[LENGTH_PLACE..].copy_from_slice(&bits.to_le_bytes());
     receipt
+}
+
+/// A length that a message can have: none, few bits, any, or the most.
+fn random_length(random: &mut Random) -> u64 {
+    match random.below(4) {
+        0 => 0,
+        1 => random.below(1000),
+        2 => random.below(MOST_BITS + 1),
+        _ => MOST_BITS,
+    }
 }
 
 fn random_receipt(random: &mut Random) -> Receipt {
     let w = if random.below(2) == 0 { 32 } else { 64 };
-    let n = 1 + random.below(8 * u64::from(w)) as u16;
-    receipt(w, n, random)
+    let n = 1 + random.below(8 * w);
+    let bits = random_length(random);
+    receipt(w, n, bits, random)
 }
 
-/// Every way in which the bytes of a receipt can be wrong, by one bit.
+/// What makes two receipts the same if they agree in it: the word size, the digest length, the digest and the length of
+/// the message in bits.
+fn fields(receipt: &Receipt) -> (u8, u16, &[u8], u64) {
+    let n = digest_length(receipt);
+    (receipt[0], n, &receipt[DIGEST_PLACE..digest_end(n)], bit_length(receipt))
+}
+
+fn digest_length(receipt: &Receipt) -> u16 {
+    u16::from_le_bytes([receipt[2], receipt[3]])
+}
+
+/// Where a digest of n bits ends.
+fn digest_end(n: u16) -> usize {
+    DIGEST_PLACE + usize::from(n.div_ceil(8))
+}
+
+/// Every way in which the bytes of a receipt can be wrong.
 #[derive(Clone, Copy, Debug)]
 enum Damage {
     WordSize,
@@ -43,27 +69,39 @@ enum Damage {
     LongDigest,
     UnusedBit,
     TrailingByte,
+    LongMessage,
 }
 
-const DAMAGES: [Damage; 6] =
-    [Damage::WordSize, Damage::ByteOne, Damage::NoDigest, Damage::LongDigest, Damage::UnusedBit, Damage::TrailingByte];
+const DAMAGES: [Damage; 7] = [
+    Damage::WordSize,
+    Damage::ByteOne,
+    Damage::NoDigest,
+    Damage::LongDigest,
+    Damage::UnusedBit,
+    Damage::TrailingByte,
+    Damage::LongMessage,
+];
 
 fn damaged(damage: Damage, random: &mut Random) -> Receipt {
     // A digest with unused bits and room after it.
-    let mut bytes = receipt(32, 1 + 8 * random.below(31) as u16, random);
-    let n = u16::from_le_bytes([bytes[2], bytes[3]]);
-    let end = FRONT + usize::from(n.div_ceil(8));
+    let n = 1 + 8 * random.below(31);
+    let bits = random_length(random);
+    let mut bytes = receipt(32, n, bits, random);
+    let end = digest_end(n as u16);
     match damage {
         Damage::WordSize => bytes[0] ^= 1 << random.below(8),
         Damage::ByteOne => bytes[1] ^= 1 << random.below(8),
-        Damage::NoDigest => {
-            bytes[2..].fill(0);
-        }
-        Damage::LongDigest => bytes[2..FRONT].copy_from_slice(&257_u16.to_le_bytes()),
+        Damage::NoDigest => bytes[2..LENGTH_PLACE].fill(0),
+        Damage::LongDigest => bytes[2..DIGEST_PLACE].copy_from_slice(&257_u16.to_le_bytes()),
         Damage::UnusedBit => bytes[end - 1] ^= 1 << random.below(7),
         Damage::TrailingByte => {
-            let place = end + random.below((RECEIPT_BYTES - end) as u64) as usize;
+            let place = end + random.below((LENGTH_PLACE - end) as u64) as usize;
             bytes[place] ^= 1 << random.below(8);
+        }
+        // By one bit, or by any number of them.
+        Damage::LongMessage => {
+            let above = if random.below(2) == 0 { 0 } else { random.below(u64::MAX - MOST_BITS) };
+            bytes = with_length(bytes, MOST_BITS + 1 + above);
         }
     }
     bytes
@@ -71,13 +109,13 @@ fn damaged(damage: Damage, random: &mut Random) -> Receipt {
 
 /// What Tally answers to a list of receipts, of which the one at a place may be malformed.
 fn right_counts(receipts: &[Receipt], malformed: Option<usize>) -> Counts {
-    if receipts.len() > MOST {
+    if receipts.len() > MOST_RECEIPTS {
         return Counts { number: NO_RECEIPTS, ..NO_COUNTS };
     }
     if let Some(place) = malformed {
         return Counts { number: MALFORMED, place: place as u64, ..NO_COUNTS };
     }
-    let firsts = receipts.iter().collect::<HashSet<_>>().len();
+    let firsts = receipts.iter().map(fields).collect::<HashSet<_>>().len();
     Counts { firsts: firsts as u64, reprints: (receipts.len() - firsts) as u64, ..NO_COUNTS }
 }
 
@@ -121,13 +159,17 @@ impl Calls {
     }
 }
 
-/// Lists in which some receipts come again.
+/// Lists in which some receipts come again, and some with another length.
 fn random_list(count: usize, random: &mut Random) -> Vec<Receipt> {
     let mut receipts: Vec<Receipt> = Vec::new();
     for place in 0..count {
-        let again = place > 0 && random.below(3) == 0;
-        let next = if again { receipts[random.below(place as u64) as usize] } else { random_receipt(random) };
-        receipts.push(next);
+        if place == 0 || random.below(3) != 0 {
+            receipts.push(random_receipt(random));
+            continue;
+        }
+        let earlier = receipts[random.below(place as u64) as usize];
+        let again = random.below(2) == 0;
+        receipts.push(if again { earlier } else { with_length(earlier, random_length(random)) });
     }
     receipts
 }
@@ -146,10 +188,12 @@ fn random_lists() {
 fn the_most_receipts_and_one_more() {
     let mut random = Random::new(12);
     let mut calls = Calls::default();
-    for count in [MOST - 1, MOST, MOST + 1] {
-        let different: Vec<Receipt> = (0..count).map(|_| receipt(64, 512, &mut random)).collect();
+    for count in [MOST_RECEIPTS - 1, MOST_RECEIPTS, MOST_RECEIPTS + 1] {
+        let different: Vec<Receipt> = (0..count).map(|_| receipt(64, 512, MOST_BITS, &mut random)).collect();
         calls.tally(&different, None);
         calls.tally(&vec![different[0]; count], None);
+        let by_length: Vec<Receipt> = (0..count).map(|place| with_length(different[0], place as u64)).collect();
+        calls.tally(&by_length, None);
         calls.tally(&random_list(count, &mut random), None);
     }
     calls.replay();
@@ -160,9 +204,9 @@ fn the_most_receipts_and_one_more() {
 fn receipts_that_differ_in_one_bit() {
     let mut random = Random::new(13);
     let mut calls = Calls::default();
-    let one = receipt(64, 512, &mut random);
+    let one = receipt(64, 512, 0, &mut random);
     let mut list = vec![one];
-    for place in FRONT..RECEIPT_BYTES {
+    for place in DIGEST_PLACE..LENGTH_PLACE {
         let mut other = one;
         other[place] ^= 1 << random.below(8);
         calls.same(&one, &other, ACCEPTED, false);
@@ -172,7 +216,7 @@ fn receipts_that_differ_in_one_bit() {
 
     // The digest's bits are all 0, so that another n and another w leave the receipt well formed.
     let mut zeros = [0; RECEIPT_BYTES];
-    zeros[..FRONT].copy_from_slice(&[32, 0, 8, 0]);
+    zeros[..DIGEST_PLACE].copy_from_slice(&[32, 0, 8, 0]);
     let mut longer = zeros;
     longer[2] = 9;
     let mut wider = zeros;
@@ -181,6 +225,40 @@ fn receipts_that_differ_in_one_bit() {
         calls.same(&zeros, other, ACCEPTED, false);
     }
     calls.tally(&[zeros, longer, wider, zeros], None);
+    calls.replay();
+}
+
+/// Receipts that differ in the length alone, in each bit of its eight bytes: they are not the same and are counted apart, or the length is
+/// above the limit.
+#[test]
+fn receipts_that_differ_in_the_length() {
+    let mut random = Random::new(16);
+    let mut calls = Calls::default();
+    let one = receipt(64, 512, 0, &mut random);
+    let mut list = vec![one];
+    for bits in (0..u64::BITS).map(|place| 1 << place) {
+        let other = with_length(one, bits);
+        if bits <= MOST_BITS {
+            calls.same(&one, &other, ACCEPTED, false);
+            list.push(other);
+        } else {
+            calls.same(&one, &other, MALFORMED, false);
+            calls.tally(&[one, other], Some(1));
+        }
+    }
+    let count = list.len() as u64;
+    let list = list.concat();
+    calls.tally_bytes(&list, Counts { firsts: count, ..NO_COUNTS });
+    calls.tally_bytes(&list.repeat(2), Counts { firsts: count, reprints: count, ..NO_COUNTS });
+
+    // At the limit.
+    let most = with_length(one, MOST_BITS);
+    let more = with_length(one, MOST_BITS + 1);
+    calls.same(&most, &most, ACCEPTED, true);
+    calls.same(&most, &with_length(one, MOST_BITS - 1), ACCEPTED, false);
+    calls.same(&most, &more, MALFORMED, false);
+    calls.tally(&[most, one, most], None);
+    calls.tally(&[most, more, most], Some(1));
     calls.replay();
 }
 

@@ -1,8 +1,8 @@
-//! The receipts of lsh_whole against the digests of lsh_ref.
+//! The receipts of lsh_whole against the digests of lsh_ref, and the lengths on them.
 
 mod receipts;
 
-use compare::Random;
+use compare::{bit_length, last_byte, whole, Random, ACCEPTED, RECEIPT_BYTES};
 use lsh_ref::Word;
 use receipts::{assert_receipt, Arguments};
 
@@ -23,15 +23,6 @@ fn random_digest_length<W: Word>(random: &mut Random) -> u64 {
     1 + random.below(longest_digest::<W>())
 }
 
-/// The byte whose top e bits are the number `bits`; its other bits are 0.
-fn last_byte(bits: u64, e: u64) -> u8 {
-    (bits << (8 - e)) as u8
-}
-
-fn random_last_byte(e: u64, random: &mut Random) -> u8 {
-    last_byte(random.below(1 << e), e)
-}
-
 /// Message lengths next to the ends of blocks, where the padding takes one block more.
 fn edge_lengths<W: Word>() -> Vec<usize> {
     let block = W::BLOCK_BYTES;
@@ -43,7 +34,7 @@ fn compare_digest_lengths_and_extra_bits<W: Word>() {
     for n in 1..=longest_digest::<W>() {
         for e in 0..=7 {
             for message_len in edge_lengths::<W>() {
-                let last = random_last_byte(e, &mut random);
+                let last = random.last_byte(e);
                 compare_message::<W>(n, message_len, last, e, &mut random);
             }
         }
@@ -86,7 +77,7 @@ fn last_bytes_64() {
 fn compare_random_bits<W: Word>(message_len: usize, random: &mut Random) {
     let n = random_digest_length::<W>(random);
     let e = random.below(8);
-    let last = random_last_byte(e, random);
+    let last = random.last_byte(e);
     compare_message::<W>(n, message_len, last, e, random);
 }
 
@@ -124,4 +115,31 @@ fn long_messages_32() {
 #[test]
 fn long_messages_64() {
     compare_long_messages::<u64>();
+}
+
+/// The length is read back from the receipts of random messages, of one byte of length and of more.
+fn read_lengths_back<W: Word>() {
+    let mut random = Random::new(W::BITS as u64);
+    for e in 0..=7 {
+        for most in [16, 256, 4096, 1 << 16] {
+            for _ in 0..25 {
+                let message_len = random.below(most);
+                let message = random.bytes(message_len as usize);
+                let n = random_digest_length::<W>(&mut random);
+                let mut output = [0xa5; RECEIPT_BYTES];
+                assert_eq!(whole(W::BITS as u64, n, &message, random.last_byte(e), e, &mut output), ACCEPTED);
+                assert_eq!(bit_length(&output), 8 * message_len + e);
+            }
+        }
+    }
+}
+
+#[test]
+fn lengths_32() {
+    read_lengths_back::<u32>();
+}
+
+#[test]
+fn lengths_64() {
+    read_lengths_back::<u64>();
 }

@@ -1,9 +1,11 @@
 -- `same::all_agree` meets its contract. Assumes nothing.
+use mathlib.Core.Path.{sym, _∙_}
 use mathlib.Core.Logic.{⊎-elim}
 use Prim.Native.Nat.{_-_, _≤_}
 use native.Mathlib.Omega.{arith}
 use Rattle.finalization.specs.Receipt.{receiptBytes}
 use Rattle.same.proofs.Compared.{Compared, compared-none, one-differs, one-agrees, all-compared}
+use Rattle.same.proofs.Agreement.{same-is-equal}
 use Rattle.same.proofs.all_agree.Statement.{statement}
 use Rattle.same.proofs.all_agree.Tie as tie
 
@@ -34,4 +36,7 @@ all-agree-spec =
           (c .if1 .came),
       omega arith,
     ))
-    (λ c. all-compared (c .before .loop .differ) (c .before .loop .inv .0) (omega arith) (omega arith)))
+    (λ c.
+    let z = c .before .before in
+    all-compared (c .before .loop .differ) (c .before .loop .inv .0) (omega arith) (omega arith)
+    ∙ sym (same-is-equal (z .pre .0) (z .pre .1))))

@@ -27,7 +27,12 @@ same-spec =
     (λ c.
     let e = c .before .before .before .before in
     rw (eq-eqb _ receiptBytes (e .before .if1 .left), eq-eqb _ receiptBytes (e .if2 .left), a-passed (c .before .before), sym (c .before .is-well-formed2 .ensures) ∙ not-true _ (c .if4 .taken)))
-    (λ c κs. search needs)
+    (λ c κs.
+    let e = c .before .before .before .before in
+    let k = e .before .before in (
+      record { long = e .before .if1 .left; bytes = λ i. k .before .shared-slice-known .given i .fits; form = a-passed (c .before .before) },
+      record { long = e .if2 .left; bytes = λ i. k .shared-slice-known2 .given i .fits; form = sym (c .before .is-well-formed2 .ensures) ∙ not-false _ (c .if4 .left) },
+    ))
     (λ c.
     let e = c .before .before .before .before .before in
     rw (

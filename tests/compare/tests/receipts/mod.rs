@@ -13,12 +13,13 @@ pub struct Arguments<'a> {
     pub e: u64,
 }
 
-/// Asserts that the call accepts and writes the receipt with this digest, and no byte before or after it. The output
-/// lent has the length of a receipt or up to GUARD bytes more.
+/// Asserts that the call accepts and writes the receipt with this digest and the message's length, and no byte before
+/// or after it. The output lent has the length of a receipt or up to GUARD bytes more.
 pub fn assert_receipt(given: &Arguments, digest: &[u8], random: &mut Random) {
     let mut memory = random.bytes(GUARD + RECEIPT_BYTES + GUARD);
     let mut expected = memory.clone();
-    expected[GUARD..GUARD + RECEIPT_BYTES].copy_from_slice(&receipt(given.w, given.n, digest));
+    let bits = 8 * given.message.len() as u64 + given.e;
+    expected[GUARD..GUARD + RECEIPT_BYTES].copy_from_slice(&receipt(given.w, given.n, digest, bits));
 
     let lent = RECEIPT_BYTES + random.below(GUARD as u64 + 1) as usize;
     let answer = whole(given.w, given.n, given.message, given.last, given.e, &mut memory[GUARD..GUARD + lent]);

@@ -1,10 +1,8 @@
 //! Document 01's plain tape, with the slots of a roll that document 02 (W1) adds to it.
 
 use compare::roll::CHECKPOINT_BLOCKS;
+use compare::MOST_BYTES;
 use lsh_ref::Word;
-
-/// The most bytes of an order.
-const LIMIT: u64 = 1 << 40;
 
 /// The answer to a call: its number, and the count of blocks.
 #[derive(Clone, Copy, PartialEq, Eq, Debug)]
@@ -37,7 +35,7 @@ impl Tape {
 
     pub fn append(&mut self, piece: &[u8]) -> Answer {
         let length = self.bytes.len() + piece.len();
-        if length as u64 > LIMIT {
+        if length as u64 > MOST_BYTES {
             return Answer::refused(5);
         }
         if self.slots.is_some_and(|slots| length / self.block / CHECKPOINT_BLOCKS > slots) {
