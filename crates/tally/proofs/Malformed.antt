@@ -3,13 +3,17 @@
 use mathlib.Core.Path.{_≡_, refl, sym, ap, _∙_}
 use mathlib.Core.Bool.{Bool, true, false, cond}
 use mathlib.Core.List.{List}
-use Prim.Native.Nat.{ℕ, zero, suc, _+_, _-_, _≤_, _<_, zero-le}
+use Prim.Native.Nat.{ℕ, zero, suc, _+_, _-_, _*_, _≤_, _<_, zero-le}
 use native.Mathlib.Nat.{sub-zero}
 use native.Mathlib.Numerals.{add-one}
 use native.Mathlib.Decide.{ℕ-discrete}
 use native.Mathlib.Omega.{arith}
-use Rattle.same.specs.WellFormed.{wellFormed}
+use lib.ListN.{drop}
+use Rattle.lsh.proofs.Bytes.{Bytes, bytes-take, bytes-drop}
+use Rattle.finalization.specs.Receipt.{receiptBytes}
+use Rattle.same.specs.WellFormed.{wellFormed, IsReceipt}
 use Rattle.tally.specs.Tally.{receiptCount, receiptAt, firstMalformed}
+use Rattle.tally.proofs.Places.{receipt-length}
 
 -- the receipts before place i are well formed
 pub record Searched (s : List ℕ) (i : ℕ) : Type 0 where
@@ -65,3 +69,14 @@ before-well-formed s i (suc k) j le lt = go (wellFormed (receiptAt s i)) refl (�
     go true is (yes e) later lt = ap (λ (p : ℕ). wellFormed (receiptAt s p)) (sym e) ∙ is
     go true is (no ne) later lt = later (omega arith) lt
     go false is d later lt = absurd (omega arith)
+
+-- where no place is found, each is a well-formed receipt
+pub all-receipts : (s : List ℕ) → Bytes s → {place : ℕ} → place ≡ firstMalformed s 0 (receiptCount s) → receiptCount s ≤ place
+    → (j : ℕ) → j < receiptCount s → IsReceipt (receiptAt s j)
+unfolding receiptAt
+all-receipts s bytes is none j lt =
+    record {
+      long = receipt-length s j lt;
+      bytes = bytes-take receiptBytes (drop (j * receiptBytes) s) (bytes-drop (j * receiptBytes) s bytes);
+      form = before-well-formed s 0 (receiptCount s) j zero-le (omega arith);
+    }

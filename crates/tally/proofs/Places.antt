@@ -9,7 +9,7 @@ use native.Mathlib.Omega.{arith}
 use lib.ListN.{length, take, drop, length-drop}
 use lib.Seq.{length-take-le}
 use Rattle.finalization.specs.Receipt.{receiptBytes}
-use Rattle.equal.specs.Equal.{equal}
+use Rattle.same.specs.Same.{sameReceipt}
 use Rattle.tally.specs.Tally.{receiptCount, receiptAt, receipts, isOneOf}
 
 -- `&s[from..to]`
@@ -29,16 +29,16 @@ abbrev pub Left : List ℕ → List ℕ → ℕ → ℕ → Type 0
 Left r s i j = isOneOf r (receipts s i) ≡ isOneOf r (receipts s j)
 
 -- by the last of these
-last-of : (r s : List ℕ) (j : ℕ) → 0 < j → isOneOf r (receipts s j) ≡ (equal r (receiptAt s (j - 1)) || isOneOf r (receipts s (j - 1)))
+last-of : (r s : List ℕ) (j : ℕ) → 0 < j → isOneOf r (receipts s j) ≡ (sameReceipt r (receiptAt s (j - 1)) || isOneOf r (receipts s (j - 1)))
 unfolding receipts isOneOf
 last-of r s zero h = absurd (not-suc-le-zero h)
 last-of r s (suc j) h = let e : suc j - 1 ≡ j = omega arith in rw e
 
 module _ (r s : List ℕ) (i j : ℕ) (left : Left r s i j) where
-  pub found : 0 < j → equal r (receiptAt s (j - 1)) ≡ true → true ≡ isOneOf r (receipts s i)
+  pub found : 0 < j → sameReceipt r (receiptAt s (j - 1)) ≡ true → true ≡ isOneOf r (receipts s i)
   found some is = sym (left ∙ last-of r s j some ∙ rw is)
 
-  pub not-found : 0 < j → equal r (receiptAt s (j - 1)) ≡ false → Left r s i (j - 1)
+  pub not-found : 0 < j → sameReceipt r (receiptAt s (j - 1)) ≡ false → Left r s i (j - 1)
   not-found some is = left ∙ last-of r s j some ∙ rw is
 
   pub none-left : j ≤ 0 → false ≡ isOneOf r (receipts s i)

@@ -1,6 +1,6 @@
 -- Receipts with different checksums are not the same.
 -- Assumes nothing.
-use mathlib.Core.Path.{_≡_, refl, ap}
+use mathlib.Core.Path.{_≡_, refl, ap, _∙_}
 use mathlib.Core.Bool.{Bool, true, false}
 use mathlib.Core.List.{List}
 use Prim.Native.Nat.{ℕ, _+_, _*_, _%_, _<_}
@@ -10,6 +10,9 @@ use lib.Seq.{drop-cons}
 use Rattle.lsh.specs.Tabulate.{at}
 use Rattle.equal.specs.Equal.{equal}
 use Rattle.equal.proofs.Equal.{equal-true}
+use Rattle.same.specs.WellFormed.{IsReceipt}
+use Rattle.same.specs.Same.{sameReceipt}
+use Rattle.same.proofs.Agreement.{same-is-equal}
 use Rattle.tally.specs.Checksum.{checksumBound, checksum, checksumAfter}
 
 -- the bytes from place i on, by the byte there
@@ -17,8 +20,8 @@ pub checksum-at : (s : List ℕ) (i c : ℕ) → i < length s → checksumAfter 
 unfolding checksumAfter
 checksum-at s i c h = rw (add-one, drop-cons s i 0 h)
 
-pub sums-differ : (a b : List ℕ) → (checksum a ≡ checksum b → ⊥) → equal a b ≡ false
-sums-differ a b differ = go (equal a b) refl
+pub sums-differ : {a b : List ℕ} → IsReceipt a → IsReceipt b → (checksum a ≡ checksum b → ⊥) → sameReceipt a b ≡ false
+sums-differ {a} {b} ra rb differ = same-is-equal ra rb ∙ go (equal a b) refl
   where
     go : (t : Bool) → equal a b ≡ t → t ≡ false
     go true e = absurd (differ (ap checksum (equal-true a b e)))

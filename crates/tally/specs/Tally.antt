@@ -6,8 +6,8 @@ use Prim.Native.Nat.{ℕ, zero, suc, _+_, _*_, _/_, _%_}
 use lib.Dec.{eqb, ltb}
 use lib.ListN.{length, take, drop}
 use Rattle.finalization.specs.Receipt.{receiptBytes}
-use Rattle.equal.specs.Equal.{equal}
 use Rattle.same.specs.WellFormed.{wellFormed}
+use Rattle.same.specs.Same.{sameReceipt}
 use Rattle.tally.specs.declared.Counts.{Counts}
 
 -- the most receipts of a list
@@ -35,7 +35,7 @@ firstMalformed s i (suc k) = cond (wellFormed (receiptAt s i)) (firstMalformed s
 -- the receipt r is the same as one of these
 unfoldable pub isOneOf : List ℕ → List (List ℕ) → Bool
 isOneOf r [] = false
-isOneOf r (x ∷ xs) = equal r x || isOneOf r xs
+isOneOf r (x ∷ xs) = sameReceipt r x || isOneOf r xs
 
 -- how many of these receipts are the same as no earlier one, and how many are the same as some earlier one
 unfoldable pub firsts : List (List ℕ) → ℕ

@@ -22,9 +22,11 @@ count-spec =
     (tie.spec
     Inv-loop
     μ-loop
-    (λ c κs. c .before .pre)
+    (λ c κs. c .before .pre .0)
     (λ c. (zero-le, counted-none _))
-    (λ c κs. (omega arith, omega arith, λ j h. c .before .before .before .checksums .ensures j (omega arith)))
+    (λ c κs.
+    let l = c .before .before in
+    (omega arith, omega arith, λ j h. l .before .before .before .pre .1 j (omega arith), λ j h. l .before .checksums .ensures j (omega arith)))
     (λ c. omega (arith, together (c .before .before .before .before .loop .inv .1)))
     (λ c. omega (arith, together (c .before .before .before .before .loop .inv .1)))
     (λ c. omega arith)

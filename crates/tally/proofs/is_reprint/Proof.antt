@@ -1,11 +1,11 @@
 -- `tally::is_reprint` meets its contract: before each turn the receipt is the same as none of those from place j on. Assumes nothing.
-use mathlib.Core.Path.{_≡_, refl, sym, ap, ap₂, _∙_}
+use mathlib.Core.Path.{_≡_, refl, sym, ap₂, _∙_, subst}
 use Prim.Native.Nat.{_-_, _≤_}
 use native.Mathlib.Omega.{arith}
-use lib.ListN.{length}
-use Rattle.equal.specs.Equal.{equal}
+use Rattle.same.specs.WellFormed.{IsReceipt}
+use Rattle.same.specs.Same.{sameReceipt}
 use Rattle.tally.specs.Tally.{mostReceipts, receiptAt}
-use Rattle.tally.proofs.Places.{receipt-length, Left, found, not-found, none-left}
+use Rattle.tally.proofs.Places.{Left, found, not-found, none-left}
 use Rattle.tally.proofs.Sums.{sums-differ}
 use Rattle.tally.proofs.is_reprint.Statement.{statement}
 use Rattle.tally.proofs.is_reprint.Tie as tie
@@ -19,9 +19,9 @@ abbrev μ-loop : tie.MeasureT-loop
 -- the comparison of all bytes is that of the receipts
 compared : (c : tie.After-all-agree Inv-loop μ-loop)
     → c .all-agree .result
-    ≡ equal (receiptAt (c .before .before .before .before .before .before .before .before .before .args .list .now) (c .before .before .before .before .before .before .before .before .before .args .i))
+    ≡ sameReceipt (receiptAt (c .before .before .before .before .before .before .before .before .before .args .list .now) (c .before .before .before .before .before .before .before .before .before .args .i))
     (receiptAt (c .before .before .before .before .before .before .before .before .before .args .list .now) (c .before .before .before .before .before .before .loop .j - 1))
-compared c = c .all-agree .ensures ∙ ap₂ equal (c .before .before .receipt-at .ensures) (c .before .receipt-at2 .ensures)
+compared c = c .all-agree .ensures ∙ ap₂ sameReceipt (c .before .before .receipt-at .ensures) (c .before .receipt-at2 .ensures)
 
 pub is-reprint-spec : {M : Type 1} → statement M
 unfolding mostReceipts
@@ -40,8 +40,8 @@ is-reprint-spec =
     (λ c κs. omega arith)
     (λ c κs.
     let s = c .before .before .before .before .before .before .before .before in (
-      ap length (c .before .receipt-at .ensures) ∙ receipt-length _ _ (s .pre .1),
-      ap length (c .receipt-at2 .ensures) ∙ receipt-length (s .args .list .now) (c .before .before .before .before .before .loop .j - 1) (omega arith),
+      subst IsReceipt (sym (c .before .receipt-at .ensures)) (s .pre .2 (s .args .i) (omega arith)),
+      subst IsReceipt (sym (c .receipt-at2 .ensures)) (s .pre .2 (c .before .before .before .before .before .loop .j - 1) (omega arith)),
     ))
     (λ c.
     let l = c .before .before .before .before .before .before .before in
@@ -54,5 +54,5 @@ is-reprint-spec =
     (λ c.
     let l = c .before .before .before in
     let s = l .before .before .before in
-    (omega arith, not-found _ _ _ _ (l .loop .inv .1) (omega arith) (sums-differ _ _ (λ e. c .if1 .left (s .pre .2 _ (omega arith) ∙ sym e ∙ sym (s .pre .2 _ (omega arith)))))))
+    (omega arith, not-found _ _ _ _ (l .loop .inv .1) (omega arith) (sums-differ (s .pre .2 (s .args .i) (omega arith)) (s .pre .2 (l .loop .j - 1) (omega arith)) (λ e. c .if1 .left (s .pre .3 (l .loop .j - 1) (omega arith) ∙ sym e ∙ sym (s .pre .3 (s .args .i) (omega arith)))))))
     (λ c. none-left _ _ _ _ (c .before .loop .inv .1) (omega arith)))

@@ -5,6 +5,7 @@ use borrow.Author.Needs.{needs}
 use borrow.Author.Tests.{eq-eqb, ne-eqb, lt-ltb}
 use Rattle.finalization.specs.Receipt.{receiptBytes}
 use Rattle.tally.specs.Tally.{mostReceipts, receiptCount, isBadLength, tallyCall}
+use Rattle.tally.proofs.Malformed.{all-receipts}
 use Rattle.tally.proofs.Answers.{malformed-answer, counted-answer}
 use Rattle.tally.proofs.tally.Statement.{statement}
 use Rattle.tally.proofs.tally.Tie as tie
@@ -24,7 +25,10 @@ tally-spec =
     (λ c.
     let e = c .before .before .before in
     c .refusal3 .ensures ∙ malformed-answer _ (e .before .if1 .left) (e .if2 .left) (c .before .before .first-malformed .ensures) (c .before .if3 .taken))
-    (λ c κs. c .before .before .if2 .left)
+    (λ c κs.
+    let e = c .before .before in
+    let k = e .before .before in
+    (e .if2 .left, all-receipts _ (λ i. k .shared-slice-known .given i .fits) (c .before .first-malformed .ensures) (c .if3 .left)))
     (λ c.
     let e = c .before .before .before in
     c .count .ensures ∙ counted-answer _ (e .before .if1 .left) (e .if2 .left) (c .before .before .first-malformed .ensures) (c .before .if3 .left)))
