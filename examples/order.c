@@ -1,7 +1,8 @@
 /* An order of pictures, as a kiosk's driver keeps it: order FILE...
  *
- * Prints a receipt of each picture and of the order, and how many prints are firsts and how many reprints. Then the shopper drops the
- * last picture: the order's record is wound back, and the receipt and the counts of what remains are printed.
+ * Prints a receipt of each picture and of the order, each with the length in bits that it has, and how many prints are firsts and how many
+ * reprints. Then the shopper drops the last picture: the order's record is wound back, and the receipt and the counts of what remains are
+ * printed.
  *
  * The calls are declared, with their answers, in lsh_kiosk.h. */
 #include <errno.h>
@@ -81,12 +82,22 @@ static size_t read_file(const char *name, size_t place)
     return place;
 }
 
+/* The length in bits of what a receipt is of: its last bytes, the low byte first. */
+static uint64_t bit_length(const uint8_t *receipt)
+{
+    uint64_t bits = 0;
+    for (size_t i = LSH_RECEIPT_BYTES; i > LSH_LENGTH_PLACE; i--) {
+        bits = bits << 8 | receipt[i - 1];
+    }
+    return bits;
+}
+
 static void print_receipt(const uint8_t *receipt, const char *name)
 {
     for (size_t i = 0; i < LSH_RECEIPT_BYTES; i++) {
         printf("%02x", receipt[i]);
     }
-    printf("  %s\n", name);
+    printf(" %" PRIu64 "  %s\n", bit_length(receipt), name);
 }
 
 /* The receipt of the order. Its record is not changed, so the order may go on. */

@@ -2,6 +2,7 @@
 -- Assumes nothing.
 use Prim.Native.Nat.{ℕ, _+_, _*_}
 use Rattle.finalization.specs.Receipt.{receiptBytes}
+use Rattle.text.specs.Number.{mostDigits}
 use Rattle.tally.specs.Tally.{mostReceipts}
 
 -- the most receipts that a tally takes, end to end
@@ -12,6 +13,7 @@ listBytes = mostReceipts * receiptBytes
 unfoldable pub nameBytes : ℕ
 nameBytes = 4096
 
--- a line: a backslash, the digits of a receipt, two spaces, a name each of whose bytes is escaped, and the newline; `text::put_bytes` asks for one more
+-- a line: a backslash, the digits of a receipt, a space and the length, two spaces, a name each of whose bytes is escaped, and the newline;
+-- `text::put_bytes` asks for one more
 unfoldable pub lineBytes : ℕ
-lineBytes = 1 + (2 * receiptBytes + 1) + 2 + 2 * nameBytes + 1
+lineBytes = 1 + (2 * receiptBytes + 1) + (1 + mostDigits) + 2 + 2 * nameBytes + 1

@@ -2,14 +2,17 @@
 ghost use mathlib.Core.Path.{_≡_};
 ghost use Prim.Native.Nat.{_+_, _*_, _≤_};
 ghost use lib.ListN.{length};
-ghost use Rattle.finalization.specs.Receipt.{receiptBytes, digestPlace};
+ghost use Rattle.finalization.specs.Receipt.{receiptBytes, digestPlace, lengthPlace};
+ghost use Rattle.text.specs.Number.{mostDigits};
 ghost use Rattle.receipt.specs.Sizes.{listBytes, nameBytes, lineBytes};
 use finalization::DIGEST;
+use finalization::LENGTH;
 use finalization::RECEIPT;
 use libc::STDERR_FILENO;
 use libc::STDIN_FILENO;
 use libc::STDOUT_FILENO;
 use record::Record;
+use text::DIGITS;
 
 // The bytes of the most receipts that a tally takes.
 const LIST: usize = tally::MOST_RECEIPTS * RECEIPT;
@@ -18,7 +21,7 @@ const LIST: usize = tally::MOST_RECEIPTS * RECEIPT;
 const NAME: usize = 4096;
 
 // Room for the longest line that is printed (lineBytes in specs/Sizes.antt).
-const LINE: usize = 1 + (2 * RECEIPT + 1) + 2 + 2 * NAME + 1;
+const LINE: usize = 1 + (2 * RECEIPT + 1) + (1 + DIGITS) + 2 + 2 * NAME + 1;
 
 // What the options ask for, and the first argument after them.
 struct Asked {
@@ -26,6 +29,7 @@ struct Asked {
     // 0 for the longest digest of the word size.
     n: u64,
     digest: bool,
+    length: bool,
     tally: bool,
     first: usize,
     // Whether the next argument may be an option.
@@ -100,6 +104,7 @@ fn options() -> Asked {
         w: 32,
         n: 0,
         digest: false,
+        length: false,
         tally: false,
         first: 1,
         more: true,
@@ -140,14 +145,15 @@ fn is_option(text: &[u8]) -> bool {
 
 // The option of a name.
 fn named(mut a: Asked, name: &[u8]) -> Asked {
-    let option = script::place(b"-- --digest --tally -w -n -h --help", name);
+    let option = script::place(b"-- --digest --length --tally -w -n -h --help", name);
     match option {
         0 => a.more = false,
         1 => a.digest = true,
-        2 => a.tally = true,
-        3 => a = word_size(a, name),
-        4 => a = bits(a, name),
-        5 | 6 => a = help(a),
+        2 => a.length = true,
+        3 => a.tally = true,
+        4 => a = word_size(a, name),
+        5 => a = bits(a, name),
+        6 | 7 => a = help(a),
         _ => a = no_option(a, name),
     }
     a
@@ -234,7 +240,7 @@ fn value_wrong(option: &[u8], value: &[u8], fault: &[u8]) {
 }
 
 fn number_wrong(option: &[u8], value: u64, fault: &[u8]) {
-    let mut digits = [0u8; 20];
+    let mut digits = [0u8; DIGITS];
     let n = io::decimal(value, &mut digits);
     value_wrong(option, &digits[..n], fault);
 }
@@ -242,7 +248,7 @@ fn number_wrong(option: &[u8], value: u64, fault: &[u8]) {
 fn usage(fd: i32) {
     io::write_all(
         fd,
-        b"usage: receipt [-w 32|64] [-n BITS] [--digest] [--tally] FILE...\n",
+        b"usage: receipt [-w 32|64] [-n BITS] [--digest] [--length] [--tally] FILE...\n",
     );
 }
 
@@ -255,6 +261,7 @@ fn help(a: Asked) -> Asked {
           \x20 -w 32|64    the word size, 32 if it is not given\n\
           \x20 -n BITS     the digest length, 1 to 8 times the word size, the longest if it is not given\n\
           \x20 --digest    prints the digest alone\n\
+          \x20 --length    adds the length of the file in bits, as the receipt has it\n\
           \x20 --tally     adds a line: how many receipts are firsts, and how many reprints\n\
           \x20 --          ends the options\n\
           \x20 -h, --help  prints this\n",
@@ -270,7 +277,7 @@ fn files(a: Asked, opened: Record, list: &mut [u8]) -> usize
     let mut count: usize = 0;
     let mut i = a.first;
     while i < end {
-        count = keep(list, count, file(a.digest, opened, i));
+        count = keep(list, count, file(a, opened, i));
         i += 1;
     }
     count
@@ -293,18 +300,18 @@ fn keep(list: &mut [u8], count: usize, made: Made) -> usize
 }
 
 // Prints the receipt of the file that argument i names.
-fn file(digest: bool, opened: Record, i: usize) -> Made {
+fn file(a: Asked, opened: Record, i: usize) -> Made {
     let mut text = io::buffer();
     let n = os::arg(i, &mut text);
     if os::errno() != 0 {
         io::write_all(STDERR_FILENO, b"receipt: a file's name is too long\n");
         return none_made();
     }
-    print_file(digest, opened, &text[..n])
+    print_file(a, opened, &text[..n])
 }
 
 // Prints the receipt of the file of a name.
-fn print_file(digest: bool, opened: Record, name: &[u8]) -> Made
+fn print_file(a: Asked, opened: Record, name: &[u8]) -> Made
     requires { ⌜ length (now name) ≤ nameBytes ⌝ }
 {
     let t = read_file(name, opened);
@@ -312,7 +319,7 @@ fn print_file(digest: bool, opened: Record, name: &[u8]) -> Made
         return none_made();
     }
     let receipt = receipt_of(t.record);
-    let good = print_receipt(digest, opened.n, receipt, name);
+    let good = print_receipt(a, opened.n, receipt, name);
     Made {
         good: good,
         receipt: receipt,
@@ -397,35 +404,36 @@ fn fail(name: &[u8]) {
     os::fail(name);
 }
 
-// Prints a receipt, or its digest of n bits alone, and the name.
-fn print_receipt(digest: bool, n: u64, receipt: [u8; RECEIPT], name: &[u8]) -> bool
+// Prints a receipt, or its digest of n bits alone, the length of the file if it is asked for, and the name.
+fn print_receipt(a: Asked, n: u64, receipt: [u8; RECEIPT], name: &[u8]) -> bool
     requires { ⌜ length (now name) ≤ nameBytes ⌝ }
 {
     let r = receipt;
-    if digest {
+    let bits = same::bit_length_of(&r);
+    if a.digest {
         let end = digest_end(n);
-        return print_line(&r[DIGEST..end], name);
+        return print_line(&r[DIGEST..end], a.length, bits, name);
     }
-    print_line(&r, name)
+    print_line(&r, a.length, bits, name)
 }
 
 // The place after a digest of n bits in a receipt.
 fn digest_end(n: u64) -> usize
-    ensures { λ r. ⌜ (digestPlace ≤ r) × (r ≤ receiptBytes) ⌝ }
+    ensures { λ r. ⌜ (digestPlace ≤ r) × (r ≤ lengthPlace) ⌝ }
 {
     if runs::longest_digest(64) < n {
-        return RECEIPT;
+        return LENGTH;
     }
     let bytes = (n + 7) / 8;
     DIGEST + bytes as usize
 }
 
-// Prints bytes of a receipt and the name in a line.
-fn print_line(shown: &[u8], name: &[u8]) -> bool
+// Prints bytes of a receipt, the length if it is asked for, and the name in a line.
+fn print_line(shown: &[u8], with_length: bool, bits: u64, name: &[u8]) -> bool
     requires { ⌜ (length (now shown) ≤ receiptBytes) × (length (now name) ≤ nameBytes) ⌝ }
 {
     let mut line = line_buffer();
-    let end = put_line(&mut line, shown, name);
+    let end = put_line(&mut line, shown, with_length, bits, name);
     let first = line_begin(name);
     if io::write_all(STDOUT_FILENO, &line[first..end]) {
         return true;
@@ -436,16 +444,29 @@ fn print_line(shown: &[u8], name: &[u8]) -> bool
 
 // Writes a line and answers where it ends. As sha256sum does, a line whose name has a backslash or a newline begins with a backslash, and these
 // are written with one.
-fn put_line(line: &mut [u8], shown: &[u8], name: &[u8]) -> usize
+fn put_line(line: &mut [u8], shown: &[u8], with_length: bool, bits: u64, name: &[u8]) -> usize
     requires { ⌜ (lineBytes ≡ length (now line)) × (length (now shown) ≤ receiptBytes) × (length (now name) ≤ nameBytes) ⌝ }
     ensures { λ r. ⌜ (1 ≤ r) × (r ≤ lineBytes) ⌝ }
 {
     let a = text::put_bytes(line, 1, shown);
-    let b = text::put(line, a, b"  ");
-    let c = put_name(line, b, name);
+    let b = put_length(line, a, with_length, bits);
+    let c = text::put(line, b, b"  ");
+    let d = put_name(line, c, name);
     line[0] = b'\\';
-    line[c] = b'\n';
-    c + 1
+    line[d] = b'\n';
+    d + 1
+}
+
+// A space and the length, if it is asked for.
+fn put_length(line: &mut [u8], from: usize, asked: bool, bits: u64) -> usize
+    requires { ⌜ from + 1 + mostDigits ≤ length (now line) ⌝ }
+    ensures { λ r. ⌜ (from ≤ r) × (r ≤ from + 1 + mostDigits) ⌝ }
+{
+    if !asked {
+        return from;
+    }
+    let after = text::put(line, from, b" ");
+    text::put_number(line, after, bits)
 }
 
 fn line_buffer() -> [u8; LINE]

@@ -19,10 +19,6 @@ rollBytes = 65536
 abbrev pub lentBytes : ℕ
 lentBytes = stringBytes + rollBytes
 
--- DIGITS: the most digits of a number of 64 bits. No buffer of the program's own has this length, so what is proved is that DIGITS are enough
-abbrev pub digits : ℕ
-digits = 20
-
 -- ROOM: the bytes of the line buffer. What a line prints stands behind the line's name: four numbers at most, and then the digits of BYTES bytes at
 -- most, or those of a chain and of the held bytes
 abbrev pub roomBytes : ℕ

@@ -3,7 +3,8 @@ ghost use Prim.Native.Nat.{_+_, _*_, _<_, _≤_};
 ghost use lib.ListN.{length};
 ghost use Rattle.runs.specs.Limits.{longestBlock};
 ghost use Rattle.script.specs.Numbers.{wideChain};
-ghost use Rattle.replay.specs.Sizes.{lineBytes, digits, roomBytes};
+ghost use Rattle.text.specs.Number.{mostDigits};
+ghost use Rattle.replay.specs.Sizes.{lineBytes, roomBytes};
 use crate::BYTES;
 use crate::LINE;
 use crate::words;
@@ -12,9 +13,6 @@ use libc::STDOUT_FILENO;
 use record::Record;
 use runs::LONGEST_BLOCK;
 use script::WIDE_CHAIN;
-
-// The most digits of a number.
-const DIGITS: usize = 20;
 
 // What comes behind the name of a line and its numbers: nothing, yes, no, a part of what the call was lent, or the words of the record.
 pub const NAME: u32 = 0;
@@ -140,7 +138,7 @@ fn write(line: &mut [u8], n: usize) -> bool
 // Puts the front of what is printed into the buffer, and returns the place after it, as the following do.
 fn put_front(n: usize, line: &mut [u8], k: u64, c: Reply) -> usize
     requires { ⌜ roomBytes ≤ length (now line) ⌝ }
-    ensures { λ r. ⌜ r ≤ lineBytes + 4 * (1 + digits) ⌝ }
+    ensures { λ r. ⌜ r ≤ lineBytes + 4 * (1 + mostDigits) ⌝ }
 {
     if TOO_LONG <= c.what {
         let a = text::put(line, 0, b"line ");
@@ -154,8 +152,8 @@ fn put_front(n: usize, line: &mut [u8], k: u64, c: Reply) -> usize
 
 // The first count of the numbers, a space before each.
 fn put_numbers(line: &mut [u8], from: usize, count: usize, numbers: [u64; 4]) -> usize
-    requires { ⌜ from + 4 * (1 + digits) ≤ length (now line) ⌝ }
-    ensures { λ r. ⌜ r ≤ from + 4 * (1 + digits) ⌝ }
+    requires { ⌜ from + 4 * (1 + mostDigits) ≤ length (now line) ⌝ }
+    ensures { λ r. ⌜ r ≤ from + 4 * (1 + mostDigits) ⌝ }
 {
     let x = numbers;
     let n = words::least(count, 4);
@@ -167,25 +165,16 @@ fn put_numbers(line: &mut [u8], from: usize, count: usize, numbers: [u64; 4]) ->
 }
 
 fn put_next(line: &mut [u8], from: usize, x: u64) -> usize
-    requires { ⌜ from + 1 + digits ≤ length (now line) ⌝ }
-    ensures { λ r. ⌜ r ≤ from + 1 + digits ⌝ }
+    requires { ⌜ from + 1 + mostDigits ≤ length (now line) ⌝ }
+    ensures { λ r. ⌜ r ≤ from + 1 + mostDigits ⌝ }
 {
     let a = text::put(line, from, b" ");
-    put_number(line, a, x)
-}
-
-fn put_number(line: &mut [u8], from: usize, x: u64) -> usize
-    requires { ⌜ from + digits ≤ length (now line) ⌝ }
-    ensures { λ r. ⌜ r ≤ from + digits ⌝ }
-{
-    let mut number = [0u8; DIGITS];
-    let k = io::decimal(x, &mut number);
-    text::put(line, from, &number[..k])
+    text::put_number(line, a, x)
 }
 
 // What comes behind that.
 fn put_rest(line: &mut [u8], from: usize, c: Reply, lent: &[u8]) -> usize
-    requires { ⌜ (roomBytes ≤ length (now line)) × (from ≤ lineBytes + 4 * (1 + digits)) ⌝ }
+    requires { ⌜ (roomBytes ≤ length (now line)) × (from ≤ lineBytes + 4 * (1 + mostDigits)) ⌝ }
     ensures { λ r. ⌜ r < roomBytes ⌝ }
 {
     let what = c.what;
@@ -197,7 +186,7 @@ fn put_rest(line: &mut [u8], from: usize, c: Reply, lent: &[u8]) -> usize
 }
 
 fn put_words(line: &mut [u8], from: usize, what: u32) -> usize
-    requires { ⌜ (roomBytes ≤ length (now line)) × (from ≤ lineBytes + 4 * (1 + digits)) ⌝ }
+    requires { ⌜ (roomBytes ≤ length (now line)) × (from ≤ lineBytes + 4 * (1 + mostDigits)) ⌝ }
     ensures { λ r. ⌜ r < roomBytes ⌝ }
 {
     match what {
@@ -211,7 +200,7 @@ fn put_words(line: &mut [u8], from: usize, what: u32) -> usize
 
 // A part of what calls are lent: an output or the roll, at most as many bytes as a line can say.
 fn put_part(line: &mut [u8], from: usize, part: &[u8]) -> usize
-    requires { ⌜ (roomBytes ≤ length (now line)) × (from ≤ lineBytes + 4 * (1 + digits)) ⌝ }
+    requires { ⌜ (roomBytes ≤ length (now line)) × (from ≤ lineBytes + 4 * (1 + mostDigits)) ⌝ }
     ensures { λ r. ⌜ r < roomBytes ⌝ }
 {
     let n = words::least(part.len(), BYTES);
@@ -229,7 +218,7 @@ fn put_bytes(line: &mut [u8], from: usize, s: &[u8]) -> usize
 
 // The chain and the held bytes of the record.
 fn put_record(line: &mut [u8], from: usize, r: Record) -> usize
-    requires { ⌜ (roomBytes ≤ length (now line)) × (from ≤ lineBytes + 4 * (1 + digits)) ⌝ }
+    requires { ⌜ (roomBytes ≤ length (now line)) × (from ≤ lineBytes + 4 * (1 + mostDigits)) ⌝ }
     ensures { λ e. ⌜ e < roomBytes ⌝ }
 {
     let chain = r.chain;

@@ -19,6 +19,6 @@ keep-spec =
     (λ c. search needs)
     (λ c. search needs)
     (λ c. search needs)
-    (λ c κs. let l : length (c .before .before .before .before .before .before .before .before .args .made .receipt) ≡ 68 = search needs in omega arith)
+    (λ c κs. let l : length (c .before .before .before .before .before .before .before .before .args .made .receipt) ≡ receiptBytes = search needs in omega arith)
     (λ c. search needs)
     (λ c. search needs))

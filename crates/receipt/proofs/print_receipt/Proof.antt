@@ -10,6 +10,8 @@ unfolding receiptBytes
 print-receipt-spec =
     tie.close
     (tie.spec
+    (λ c. search needs)
+    (λ c κs. search needs)
     (λ c κs. search needs)
     (λ c. search needs)
     (λ c. search needs)
@@ -17,5 +19,5 @@ print-receipt-spec =
     (λ c κs. search needs)
     (λ c. search needs)
     (λ c. search needs)
-    (λ c κs. (omega arith, c .before .before .before .pre))
+    (λ c κs. (omega arith, c .before .before .before .before .before .pre))
     (λ c. search needs))

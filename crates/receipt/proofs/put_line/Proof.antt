@@ -13,6 +13,7 @@ put-line-spec =
     tie.close
     (tie.spec
     (λ c κs. omega arith)
+    (λ c κs. omega arith)
     (λ c. search needs)
     (λ c κs. omega arith)
     (λ c κs. omega arith)
