@@ -142,7 +142,7 @@ fn put_front(n: usize, line: &mut [u8], k: u64, c: Reply) -> usize
 {
     if TOO_LONG <= c.what {
         let a = text::put(line, 0, b"line ");
-        return put_number(line, a, k);
+        return text::put_number(line, a, k);
     }
     let m = words::least(n, LINE);
     let name = script::until(&line[0..m], b' ');
