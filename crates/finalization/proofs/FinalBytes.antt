@@ -8,7 +8,7 @@ use native.Mathlib.Nat.{mod-lt, div-lt-iff-lt-mul, zero-add, suc-add, mul-le-mul
 use native.Mathlib.Omega.{arith}
 use lib.Arith.{lt-one}
 use lib.Pow.{pow-pos}
-use lib.ListN.{length, take, replicate, length-append, length-replicate, List·getD-append}
+use lib.ListN.{length, take, replicate, length-append, List·getD-append}
 use lib.Seq.{length-take-le, getD-take, take-append-le}
 use Rattle.lsh.specs.Tabulate.{at, tabulate}
 use Rattle.lsh.specs.Word.{xor}

@@ -110,9 +110,10 @@ module _ (w a b : ℕ) (d l m : List ℕ) (short : length d ≤ lengthPlace - di
   abbrev left : ℕ
   left = lengthPlace - length (front ++ d)
 
-  zeros-apart : replicate 72 0 ++ m ≡ replicate (length d) 0 ++ (replicate left 0 ++ replicate 8 0 ++ m)
+  zeros-apart : replicate (receiptBytes - digestPlace) 0 ++ m ≡ replicate (length d) 0 ++ (replicate left 0 ++ replicate 8 0 ++ m)
+  unfolding receiptBytes
   zeros-apart =
-      let sum : 72 ≡ length d + (left + 8) = omega arith in
+      let sum : receiptBytes - digestPlace ≡ length d + (left + 8) = omega arith in
       ap (λ (k : ℕ). replicate k 0 ++ m) sum
       ∙ ap (λ (s : List ℕ). s ++ m)
       (sym (replicate-append-replicate {A = ℕ} (length d) (left + 8) 0)

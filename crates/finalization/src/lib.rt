@@ -100,7 +100,7 @@ pub fn write_receipt(w: u64, n: u64, t: [u64; 16], bits: u64, output: &mut [u8])
     word64::store(output, LENGTH, bits);
 }
 
-// Zeros in all places of a receipt.
+// Puts zeros into all places of a receipt.
 fn clear(output: &mut [u8])
     requires { ⌜ receiptBytes ≤ length (now output) ⌝ }
     ensures { λ _. ⌜ now (output .exit) ≡ replicate receiptBytes 0 ++ drop receiptBytes (now (output .entry)) ⌝ }
@@ -111,6 +111,7 @@ fn clear(output: &mut [u8])
     }
 }
 
+// Puts the bytes of a digest into their place.
 fn put_digest(output: &mut [u8], bytes: &[u8])
     requires { ⌜ digestPlace + length (now bytes) ≤ length (now output) ⌝ }
     ensures { λ _. ⌜ now (output .exit) ≡ sets (now (output .entry)) digestPlace (now (bytes .entry)) ⌝ }
@@ -122,7 +123,7 @@ fn put_digest(output: &mut [u8], bytes: &[u8])
     }
 }
 
-// The bytes of the digest, and others after them. The bits of its last byte after the first n are 0.
+// The bytes of the digest, and others after them. Byte n / 8 keeps its first n % 8 bits; where it keeps none, it is behind the digest.
 fn digest_bytes(w: u64, n: u64, t: [u64; 16]) -> [u8; LONGEST_BLOCK]
     requires { ⌜ (isWordSize w ≡ true) × (n ≤ longestDigest w) × Chain (sizeOf w) t ⌝ }
     ensures { λ r. ⌜ take ((n + 7) / 8) r ≡ bytesOfBits (digest (sizeOf w) n t) ⌝ }
@@ -134,7 +135,7 @@ fn digest_bytes(w: u64, n: u64, t: [u64; 16]) -> [u8; LONGEST_BLOCK]
     s
 }
 
-// The bytes of the final chain, and others after them.
+// The bytes of the final chain, which are those of eight words, and others after them.
 fn final_bytes(w: u64, t: [u64; 16]) -> [u8; LONGEST_BLOCK]
     requires { ⌜ (isWordSize w ≡ true) × Chain (sizeOf w) t ⌝ }
     ensures { λ r. ⌜ take w r ≡ finalBytes (sizeOf w) t ⌝ }
@@ -145,7 +146,8 @@ fn final_bytes(w: u64, t: [u64; 16]) -> [u8; LONGEST_BLOCK]
     s
 }
 
-// Words l and l + 8 of the chain in one, for l = 0 to 7, and zeros. A chain of 32-bit words has only zeros above them.
+// Words l and l + 8 of the chain in one, for l = 0 to 7, and as many zeros, so that they can be stored as a chain. A chain of 32-bit words has
+// only zeros above them.
 fn final_words(t: [u64; 16]) -> [u64; 16]
     ensures { λ r. ⌜ r ≡ tabulate 8 (λ l. xor 64 (at t l) (at t (l + 8))) ++ replicate 8 0 ⌝ }
 {

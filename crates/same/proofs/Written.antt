@@ -10,7 +10,7 @@ use borrow.Author.Tests.{eq-eqb, eqb-false, le-leb}
 use lib.Pow.{pow-add}
 use lib.Dec.{eqb}
 use lib.ListN.{length, take, drop, replicate, length-append, length-drop, length-replicate, List·getD-append}
-use lib.Seq.{length-take-le, take-at, drop-at, drop-append-le, take-append-le, getD-append-add}
+use lib.Seq.{length-take-le, take-at, drop-at, take-append-le, getD-append-add}
 use Rattle.lsh.specs.Tabulate.{at, tabulate}
 use Rattle.lsh.specs.WordSize.{isWordSize, sizeOf}
 use Rattle.lsh.specs.Bytes.{wordAt, byteAt}
@@ -21,7 +21,6 @@ use Rattle.lsh.proofs.Figures.{bits-are}
 use Rattle.lsh.proofs.Bytes.{octets, word-bytes}
 use Rattle.message.proofs.Bits.{length-bits, number-zeros}
 use Rattle.runs.specs.Limits.{longestDigest, isDigestLength, limit}
-use Rattle.runs.specs.ZeroFilled.{zeroFilled}
 use Rattle.runs.proofs.Limits.{digest-most, digest-longest}
 use Rattle.finalization.specs.Receipt.{receiptBytes, digestPlace, lengthPlace, receipt}
 use Rattle.finalization.specs.Ending.{messageBits, mostBits}

@@ -1,12 +1,13 @@
 -- `finalization::digest_bytes` meets its contract. Assumes nothing.
 use mathlib.Core.Path.{_≡_, ap, _∙_}
-use Prim.Native.Nat.{ℕ, _+_, _-_, _/_, _%_, _^_, _<_}
+use Prim.Native.Nat.{ℕ, _+_, _-_, _/_}
 use native.Mathlib.Omega.{arith}
 use native.Mathlib.Nat.{mod-le}
 use lib.ListN.{length, set, take}
 use borrow.Author.Needs.{needs}
-use Rattle.lsh.proofs.Figures.{word-most}
 use Rattle.lsh.specs.Tabulate.{at}
+use Rattle.lsh.proofs.Figures.{word-most}
+use Rattle.runs.specs.Limits.{longestBlock}
 use Rattle.finalization.proofs.Receipts.{cut-front}
 use Rattle.finalization.proofs.digest_bytes.Statement.{statement}
 use Rattle.finalization.proofs.digest_bytes.Tie as tie
@@ -25,6 +26,6 @@ digest-bytes-spec =
     let z = c .before .before in
     let n = z .args .n in
     let s = c .before .final-bytes .result in
-    let long : length s ≡ 256 = search needs in
+    let long : length s ≡ longestBlock = search needs in
     ap (λ (x : ℕ). take ((n + 7) / 8) (set s (n / 8) (at s (n / 8) - x))) (c .low-bits .ensures)
     ∙ cut-front _ _ _ (z .pre .0) (z .pre .1) s (c .before .final-bytes .ensures) (omega (arith, word-most _ (z .pre .0)))))

@@ -6,18 +6,19 @@ use lib.ListN.{length, take, length-set}
 use lib.Seq.{length-take-le, length-sets}
 use borrow.Author.Needs.{needs}
 use Rattle.lsh.proofs.Figures.{word-most}
+use Rattle.runs.specs.Limits.{longestBlock, longestDigest}
 use Rattle.finalization.specs.Receipt.{receiptBytes}
 use Rattle.finalization.proofs.Receipts.{written}
 use Rattle.finalization.proofs.write_receipt.Statement.{statement}
 use Rattle.finalization.proofs.write_receipt.Tie as tie
 
 -- n is a digest's length of some word size
-few : (z : tie.Start) → z .args .n ≤ 512
+few : (z : tie.Start) → z .args .n ≤ longestDigest 64
 few z = omega (arith, word-most (z .args .w) (z .pre .0))
 
 inside : (c : tie.After-put-digest-arg) → (c .before .before .before .before .before .before .before .args .n + 7) / 8 ≤ length (c .before .before .before .before .before .digest-bytes .result)
 inside c =
-    let long : length (c .before .before .before .before .before .digest-bytes .result) ≡ 256 = search needs in
+    let long : length (c .before .before .before .before .before .digest-bytes .result) ≡ longestBlock = search needs in
     omega (arith, few (c .before .before .before .before .before .before .before))
 
 taken : (c : tie.After-put-digest-arg)

@@ -1,7 +1,6 @@
 -- `same::same` meets its contract. Assumes nothing.
 use mathlib.Core.Path.{_≡_, sym, _∙_}
 use mathlib.Core.Bool.{true}
-use borrow.Author.Needs.{needs}
 use borrow.Author.Tests.{not-true, not-false, eq-eqb, ne-eqb}
 use Rattle.finalization.specs.Receipt.{receiptBytes}
 use Rattle.same.specs.WellFormed.{wellFormed}
