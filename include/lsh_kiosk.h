@@ -211,7 +211,7 @@ uint32_t lsh_whole(uint64_t w, uint64_t n, const uint8_t *message, size_t messag
 /* ---- receipts ---- */
 
 /* Tells whether two receipts are the same: word size, digest length, digest and the length of the message in bits all agree. Two receipts
- * that are not malformed are the same exactly if all their bytes are.
+ * that are not malformed are the same exactly if all their bytes agree.
  * Answers 0 and yes or no; or answers LSH_NO_RECEIPTS if one of the byte strings has not LSH_RECEIPT_BYTES bytes, then LSH_MALFORMED if one of
  * the receipts is malformed: a w, byte 1 or n that no receipt has, a bit after the digest's n that is set, or a length above LSH_MOST_BITS. */
 lsh_sameness lsh_same(const uint8_t *a, size_t a_len, const uint8_t *b, size_t b_len);

@@ -7,17 +7,18 @@ use Prim.Native.Nat.{ℕ}
 use native.Mathlib.Omega.{arith}
 use borrow.Author.Tests.{eqb-true, eq-eqb}
 use lib.Dec.{eqb}
-use lib.ListN.{length}
+use lib.ListN.{length, take}
+use Rattle.lsh.specs.Bits.{bitsOf}
 use Rattle.lsh.proofs.Tests.{and-true}
 use Rattle.lsh.proofs.Bytes.{Bytes}
 use Rattle.equal.specs.Equal.{equal}
 use Rattle.equal.proofs.Equal.{equal-self, equal-true}
-use Rattle.finalization.specs.Receipt.{receiptBytes}
+use Rattle.finalization.specs.Receipt.{receiptBytes, receipt}
 use Rattle.same.specs.declared.Sameness.{Sameness}
 use Rattle.same.specs.Parts.{wordSizeOf, digestLengthOf, digestOf, bitLengthOf}
 use Rattle.same.specs.WellFormed.{wellFormed, IsReceipt}
 use Rattle.same.specs.Same.{sameReceipt, isReceiptLong, sameCall}
-use Rattle.same.proofs.Formed.{made, made-of-parts}
+use Rattle.same.proofs.Formed.{receipt-of-parts}
 
 pub same-self : (r : List ℕ) → sameReceipt r r ≡ true
 unfolding sameReceipt
@@ -35,10 +36,11 @@ module _ {a b : List ℕ} (ra : IsReceipt a) (rb : IsReceipt b) where
       let p3 : (w && n && d ≡ true) × (l ≡ true) = and-true (w && n && d) l e in
       let p2 : (w && n ≡ true) × (d ≡ true) = and-true (w && n) d (p3 .0) in
       let p1 : (w ≡ true) × (n ≡ true) = and-true w n (p2 .0) in
-      made-of-parts ra
-      ∙ ap₂ (λ (x y : ℕ). made x y (digestOf a) (bitLengthOf a)) (eqb-true (wordSizeOf a) (wordSizeOf b) (p1 .0)) (eqb-true (digestLengthOf a) (digestLengthOf b) (p1 .1))
-      ∙ ap₂ (λ (x : List ℕ) (y : ℕ). made (wordSizeOf b) (digestLengthOf b) x y) (equal-true (digestOf a) (digestOf b) (p2 .1)) (eqb-true (bitLengthOf a) (bitLengthOf b) (p3 .1))
-      ∙ sym (made-of-parts rb)
+      let parts : ℕ → ℕ → List ℕ → ℕ → List ℕ = λ w n d bits. receipt w n (take n (bitsOf d)) bits in
+      receipt-of-parts ra
+      ∙ ap₂ (λ (w n : ℕ). parts w n (digestOf a) (bitLengthOf a)) (eqb-true (wordSizeOf a) (wordSizeOf b) (p1 .0)) (eqb-true (digestLengthOf a) (digestLengthOf b) (p1 .1))
+      ∙ ap₂ (parts (wordSizeOf b) (digestLengthOf b)) (equal-true (digestOf a) (digestOf b) (p2 .1)) (eqb-true (bitLengthOf a) (bitLengthOf b) (p3 .1))
+      ∙ sym (receipt-of-parts rb)
 
   pub same-is-equal : sameReceipt a b ≡ equal a b
   same-is-equal = go (sameReceipt a b) (equal a b) refl refl

@@ -1,24 +1,27 @@
--- What the form of a receipt says, and that a well-formed receipt is made of its four parts.
+-- What the form of a receipt says, and that a well-formed receipt is the receipt of its four parts.
 -- Assumes nothing.
 use mathlib.Core.Path.{_≡_, refl, sym, ap, ap₂, _∙_}
-use mathlib.Core.Bool.{Bool, true, _&&_}
+use mathlib.Core.Bool.{Bool, true, false, cond, _&&_}
 use mathlib.Core.List.{List, [], _∷_, _++_}
-use Prim.Native.Nat.{ℕ, _+_, _-_, _*_, _/_, _%_, _≤_}
+use Prim.Native.Nat.{ℕ, _+_, _-_, _*_, _/_, _%_, _^_, _≤_, _<_}
+use native.Mathlib.Nat.{div-add-mod'}
 use native.Mathlib.Omega.{arith}
-use borrow.Author.Tests.{eqb-true, leb-true}
-use lib.Dec.{eqb, leb}
+use borrow.Author.Tests.{eqb-true, ne-eqb, ltb-false}
+use lib.Dec.{eqb, ltb, leb}
 use lib.ListN.{length, take, drop, replicate, length-drop, take-append-drop}
-use lib.Seq.{length-take-le, take-take, take-add, getD-drop}
+use lib.Seq.{length-take-le, take-take, take-add, getD-take, getD-drop}
 use Rattle.lsh.specs.Tabulate.{at, tabulate}
 use Rattle.lsh.specs.WordSize.{isWordSize}
 use Rattle.lsh.specs.Bytes.{wordAt, byteAt}
+use Rattle.lsh.specs.Bits.{bitsOf, bytesOfBits}
 use Rattle.lsh.proofs.Tests.{and-true}
 use Rattle.lsh.proofs.Tabulate.{tabulate-ext}
-use Rattle.lsh.proofs.Bytes.{byte-word}
+use Rattle.lsh.proofs.Bytes.{Bytes, bytes-take, bytes-drop, byte-word}
+use Rattle.message.proofs.Digest.{digest-bytes}
 use Rattle.runs.specs.Limits.{longestDigest, isDigestLength}
 use Rattle.runs.specs.ZeroFilled.{zeroFilled}
 use Rattle.runs.proofs.Limits.{digest-longest}
-use Rattle.finalization.specs.Receipt.{receiptBytes, digestPlace, lengthPlace}
+use Rattle.finalization.specs.Receipt.{receiptBytes, digestPlace, lengthPlace, receipt}
 use Rattle.finalization.specs.Ending.{mostBits}
 use Rattle.record.proofs.Lists.{zero-all}
 use Rattle.same.specs.Parts.{wordSizeOf, digestLengthOf, digestOf, bitLengthOf}
@@ -30,7 +33,6 @@ record Formed (r : List ℕ) : Type 0 where
   digestLength : isDigestLength (wordSizeOf r) (digestLengthOf r) ≡ true
   unused : unusedZero r (digestLengthOf r) ≡ true
   after : zeroAfter r (digestLengthOf r) ≡ true
-  few : bitLengthOf r ≤ mostBits
 
 formed : (r : List ℕ) → wellFormed r ≡ true → Formed r
 unfolding wellFormed
@@ -41,8 +43,7 @@ formed r e =
     let d : Bool = unusedZero r (digestLengthOf r) in
     let z : Bool = zeroAfter r (digestLengthOf r) in
     let l : Bool = leb (bitLengthOf r) mostBits in
-    let p5 : (a && b && c && d && z ≡ true) × (l ≡ true) = and-true (a && b && c && d && z) l e in
-    let p4 : (a && b && c && d ≡ true) × (z ≡ true) = and-true (a && b && c && d) z (p5 .0) in
+    let p4 : (a && b && c && d ≡ true) × (z ≡ true) = and-true (a && b && c && d) z (and-true (a && b && c && d && z) l e .0) in
     let p3 : (a && b && c ≡ true) × (d ≡ true) = and-true (a && b && c) d (p4 .0) in
     let p2 : (a && b ≡ true) × (c ≡ true) = and-true (a && b) c (p3 .0) in
     record {
@@ -51,12 +52,7 @@ formed r e =
       digestLength = p2 .1;
       unused = p3 .1;
       after = p4 .1;
-      few = leb-true (bitLengthOf r) mostBits (p5 .1);
     }
-
--- the bytes of a receipt with these parts
-abbrev pub made : ℕ → ℕ → List ℕ → ℕ → List ℕ
-made w n d bits = zeroFilled lengthPlace (w ∷ 0 ∷ n % 256 ∷ n / 256 ∷ d) ++ tabulate 8 (byteAt bits)
 
 first-four : (r : List ℕ) → 4 ≤ length r → take 4 r ≡ at r 0 ∷ at r 1 ∷ at r 2 ∷ at r 3 ∷ []
 first-four [] h = absurd (omega arith)
@@ -64,6 +60,9 @@ first-four (a ∷ []) h = absurd (omega arith)
 first-four (a ∷ b ∷ []) h = absurd (omega arith)
 first-four (a ∷ b ∷ c ∷ []) h = absurd (omega arith)
 first-four (a ∷ b ∷ c ∷ d ∷ r) h = refl
+
+cut-whole : (x k : ℕ) → x % 2 ^ k ≡ 0 → x / 2 ^ k * 2 ^ k ≡ x
+cut-whole x k e = omega (arith, div-add-mod' x (2 ^ k))
 
 module _ {r : List ℕ} (is : IsReceipt r) where
   ok : Formed r
@@ -105,9 +104,35 @@ module _ {r : List ℕ} (is : IsReceipt r) where
       sym (tabulate-ext 8 (byteAt (bitLengthOf r)) (drop lengthPlace r) (length-drop lengthPlace r ∙ omega arith)
       (λ i lt. byte-word 8 r lengthPlace i (is .bytes) lt ∙ sym (getD-drop lengthPlace r i 0)))
 
-  pub made-of-parts : r ≡ made (wordSizeOf r) (digestLengthOf r) (digestOf r) (bitLengthOf r)
-  unfolding digestOf receiptBytes
-  made-of-parts =
+  -- the bytes of the digest are those of its bits, since what the last one does not use is 0
+
+  last-byte : (i : ℕ) → digestLengthOf r / 8 ≤ i → i < size → at (digestOf r) i % 2 ^ (8 - digestLengthOf r % 8) ≡ 0
+  unfolding unusedZero digestOf
+  last-byte i ge lt =
+      let n : ℕ = digestLengthOf r in
+      let some : n % 8 ≡ 0 → ⊥ = λ e. omega arith in
+      let place : digestPlace + i ≡ digestPlace + n / 8 = omega arith in
+      let zero : eqb (at r (digestPlace + n / 8) % 2 ^ (8 - n % 8)) 0 ≡ true = rw (ne-eqb (n % 8) 0 some) at (ok .unused) in
+      ap (λ (x : ℕ). x % 2 ^ (8 - n % 8)) (getD-take size (drop digestPlace r) i 0 lt ∙ getD-drop digestPlace r i 0 ∙ ap (at r) place)
+      ∙ eqb-true (at r (digestPlace + n / 8) % 2 ^ (8 - n % 8)) 0 zero
+
+  are-bytes : Bytes (digestOf r)
+  unfolding digestOf
+  are-bytes = bytes-take size (drop digestPlace r) (bytes-drop digestPlace r (is .bytes))
+
+  digest-is : bytesOfBits (take (digestLengthOf r) (bitsOf (digestOf r))) ≡ digestOf r
+  digest-is =
+      digest-bytes (digestOf r) (digestLengthOf r) are-bytes (omega (arith, digest-size))
+      ∙ tabulate-ext size _ (digestOf r) digest-size (λ i lt. go i lt (ltb i (digestLengthOf r / 8)) refl)
+    where
+      go : (i : ℕ) → i < size → (b : Bool) → ltb i (digestLengthOf r / 8) ≡ b
+          → cond b (at (digestOf r) i) (at (digestOf r) i / 2 ^ (8 - digestLengthOf r % 8) * 2 ^ (8 - digestLengthOf r % 8)) ≡ at (digestOf r) i
+      go i lt true is = refl
+      go i lt false is = cut-whole (at (digestOf r) i) (8 - digestLengthOf r % 8) (last-byte i (ltb-false i (digestLengthOf r / 8) is) lt)
+
+  pub receipt-of-parts : r ≡ receipt (wordSizeOf r) (digestLengthOf r) (take (digestLengthOf r) (bitsOf (digestOf r))) (bitLengthOf r)
+  unfolding digestOf receiptBytes receipt
+  receipt-of-parts =
       let part : List ℕ = take lengthPlace r in
       let head : List ℕ = wordSizeOf r ∷ 0 ∷ digestLengthOf r % 256 ∷ digestLengthOf r / 256 ∷ digestOf r in
       let most : digestPlace + size ≤ lengthPlace = omega (arith, few) in
@@ -118,3 +143,5 @@ module _ {r : List ℕ} (is : IsReceipt r) where
       zeros ∙ ap (λ (k : ℕ). replicate (lengthPlace - k) 0) ends in
       sym (take-append-drop lengthPlace r)
       ∙ ap₂ _++_ (sym (take-append-drop (digestPlace + size) part) ∙ ap₂ _++_ begins rest) last
+      ∙ ap (λ (s : List ℕ). zeroFilled lengthPlace (wordSizeOf r ∷ 0 ∷ digestLengthOf r % 256 ∷ digestLengthOf r / 256 ∷ s) ++ tabulate 8 (byteAt (bitLengthOf r)))
+      (sym digest-is)
