@@ -1,13 +1,13 @@
 -- A loop that stores f k at place p k, for k = 0, 1, ..
 -- Assumes nothing.
 use mathlib.Core.Path.{_≡_, refl, sym, ap, _∙_, subst}
-use mathlib.Core.List.{List, [], _∷_}
+use mathlib.Core.List.{List, [], _∷_, _++_}
 use Prim.Native.Nat.{ℕ, zero, suc, _+_, _-_, _≤_, _<_, zero-le}
 use native.Mathlib.Nat.{add-zero, zero-add, add-suc, suc-add, not-suc-le-zero}
 use native.Mathlib.Decide.{ℕ-discrete, decLt}
 use native.Mathlib.Omega.{arith}
-use lib.ListN.{length, set, length-set}
-use lib.Seq.{getD-set-same, getD-set-other, ext-getD, sets, length-sets}
+use lib.ListN.{length, drop, set, length-set}
+use lib.Seq.{getD-set-same, getD-set-other, ext-getD, sets, length-sets, sets-eq}
 use Rattle.lsh.specs.Tabulate.{at, tabulate}
 use Rattle.lsh.specs.WordSize.{placeOf}
 use Rattle.lsh.proofs.Tabulate.{length-tabulate, at-tabulate, tabulate-ext}
@@ -126,3 +126,10 @@ copied-all a r {n} {m₀} {m} {i} h le room e = stored-all a h le room ∙ ap (s
 pub stored-front : {n : ℕ} {f : ℕ → ℕ} {m₀ m : List ℕ} {i : ℕ} → Placed n (λ k. k) f m₀ m i → n ≤ i → n ≤ length m₀ → m ≡ sets m₀ 0 (tabulate n f)
 stored-front {n} {f} {m₀} {m} {i} h le room =
     stored-all 0 (subst (λ (p : ℕ → ℕ). Placed n p f m₀ m i) (λ d k. sym (zero-add k) d) h) le (rw (zero-add n) room)
+
+pub front-stored : {n : ℕ} {f : ℕ → ℕ} {m₀ m : List ℕ} {i : ℕ} → Placed n (λ k. k) f m₀ m i → n ≤ i → n ≤ length m₀ → m ≡ tabulate n f ++ drop n m₀
+front-stored {n} {f} {m₀} h le room =
+    let size : length (tabulate n f) ≡ n = length-tabulate n f in
+    stored-front h le room
+    ∙ sets-eq (tabulate n f) m₀ 0 (omega arith)
+    ∙ ap (λ (k : ℕ). tabulate n f ++ drop k m₀) (zero-add (length (tabulate n f)) ∙ size)

@@ -4,7 +4,7 @@ use mathlib.Core.Path.{_≡_, refl, sym, ap, _∙_}
 use mathlib.Core.Bool.{true, cond}
 use mathlib.Core.List.{List, [], _∷_, _++_, append-assoc}
 use Prim.Native.Nat.{ℕ, _+_, _-_, _*_, _/_, _%_, _^_, _≤_, _<_}
-use native.Mathlib.Nat.{zero-add, div-add-mod'}
+use native.Mathlib.Nat.{div-add-mod'}
 use native.Mathlib.Decide.{decLt}
 use native.Mathlib.Omega.{arith}
 use borrow.Author.Tests.{lt-ltb, le-ltb}
@@ -17,10 +17,8 @@ use Rattle.lsh.specs.Bytes.{byteAt}
 use Rattle.lsh.specs.Bits.{bytesOfBits}
 use Rattle.lsh.specs.Hash.{finalBytes, digest}
 use Rattle.lsh.proofs.Figures.{bits-are, word-most}
-use Rattle.lsh.proofs.Tabulate.{length-tabulate, at-tabulate, tabulate-ext}
-use Rattle.lsh.proofs.Opening.{at-zeros}
+use Rattle.lsh.proofs.Tabulate.{length-tabulate, at-tabulate}
 use Rattle.lsh.proofs.Bytes.{octets}
-use Rattle.engine.proofs.Places.{Placed, stored-front}
 use Rattle.message.proofs.Digest.{digest-bytes}
 use Rattle.runs.specs.Limits.{longestDigest}
 use Rattle.runs.specs.ZeroFilled.{zeroFilled}
@@ -80,19 +78,6 @@ module _ (w n : ℕ) (t : List ℕ) (size : isWordSize w ≡ true) (le : n ≤ l
             ap (at cutBytes) e ∙ getD-set-same s (n / 8) _ 0 (omega arith)
             ∙ ap (λ (x : ℕ). x - x % 2 ^ (8 - n % 8)) (ap (at s) (sym e) ∙ from-front i (omega arith))
             ∙ sym (cut-byte i (omega arith) lt)
-
--- n stores at the front of a longer list
-pub front-stored : {n : ℕ} {f : ℕ → ℕ} {m₀ m : List ℕ} {i : ℕ} → Placed n (λ k. k) f m₀ m i → n ≤ i → n ≤ length m₀ → m ≡ tabulate n f ++ drop n m₀
-front-stored {n} {f} {m₀} p all room =
-    let size : length (tabulate n f) ≡ n = length-tabulate n f in
-    stored-front p all room
-    ∙ sets-eq (tabulate n f) m₀ 0 (omega arith)
-    ∙ ap (λ (k : ℕ). tabulate n f ++ drop k m₀) (zero-add (length (tabulate n f)) ∙ size)
-
-pub zeros-stored : {n : ℕ} {m₀ m : List ℕ} {i : ℕ} → Placed n (λ k. k) (λ k. 0) m₀ m i → n ≤ i → n ≤ length m₀ → m ≡ replicate n 0 ++ drop n m₀
-zeros-stored {n} {m₀} p all room =
-    front-stored p all room
-    ∙ ap (λ (s : List ℕ). s ++ drop n m₀) (tabulate-ext n (λ k. 0) (replicate n 0) (length-replicate {A = ℕ} n 0) (λ k lt. sym (at-zeros n k)))
 
 -- xs stored over q
 sets-over : (p q r xs : List ℕ) (i : ℕ) → length p ≡ i → length xs ≡ length q → sets (p ++ q ++ r) i xs ≡ p ++ xs ++ r

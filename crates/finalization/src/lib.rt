@@ -4,7 +4,6 @@ ghost use mathlib.Core.Bool.{true};
 ghost use mathlib.Core.List.{_∷_, _++_};
 ghost use Prim.Native.Nat.{_+_, _-_, _/_, _%_, _^_, _<_, _≤_};
 ghost use lib.ListN.{length, take, drop, replicate};
-ghost use lib.Seq.{sets};
 ghost use Rattle.lsh.specs.Tabulate.{at, tabulate};
 ghost use Rattle.lsh.specs.Word.{xor};
 ghost use Rattle.lsh.specs.WordSize.{isWordSize, sizeOf, blockBytes};
@@ -13,7 +12,7 @@ ghost use Rattle.lsh.specs.Bits.{bytesOfBits};
 ghost use Rattle.lsh.specs.Padding.{blocksOf};
 ghost use Rattle.lsh.specs.Hash.{finalBytes, digest};
 ghost use Rattle.runs.specs.Limits.{longestBlock, longestDigest};
-ghost use Rattle.finalization.specs.Receipt.{receiptBytes, digestPlace, receipt};
+ghost use Rattle.finalization.specs.Receipt.{receiptBytes, receipt};
 ghost use Rattle.finalization.specs.Ending.{endAnswer};
 use runs::LONGEST_BLOCK;
 
@@ -92,35 +91,13 @@ pub fn write_receipt(w: u64, n: u64, t: [u64; 16], bits: u64, output: &mut [u8])
 {
     let size = ((n + 7) / 8) as usize;
     let bytes = digest_bytes(w, n, t);
-    clear(output);
+    let end = RECEIPT;
+    text::fill(&mut output[..end], 0);
     output[0] = w as u8;
     output[2] = (n % 256) as u8;
     output[3] = (n / 256) as u8;
-    put_digest(output, &bytes[..size]);
+    text::put(output, DIGEST, &bytes[..size]);
     word64::store(output, LENGTH, bits);
-}
-
-// Puts zeros into all places of a receipt.
-fn clear(output: &mut [u8])
-    requires { ⌜ receiptBytes ≤ length (now output) ⌝ }
-    ensures { λ _. ⌜ now (output .exit) ≡ replicate receiptBytes 0 ++ drop receiptBytes (now (output .entry)) ⌝ }
-{
-    let end = RECEIPT;
-    for i in 0..end {
-        output[i] = 0;
-    }
-}
-
-// Puts the bytes of a digest into their place.
-fn put_digest(output: &mut [u8], bytes: &[u8])
-    requires { ⌜ digestPlace + length (now bytes) ≤ length (now output) ⌝ }
-    ensures { λ _. ⌜ now (output .exit) ≡ sets (now (output .entry)) digestPlace (now (bytes .entry)) ⌝ }
-{
-    let n = bytes.len();
-    for i in 0..n {
-        let place = DIGEST + i;
-        output[place] = bytes[i];
-    }
 }
 
 // The bytes of the digest, and others after them. Byte n / 8 keeps its first n % 8 bits; where it keeps none, it is behind the digest.

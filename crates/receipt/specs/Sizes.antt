@@ -2,7 +2,7 @@
 -- Assumes nothing.
 use Prim.Native.Nat.{ℕ, _+_, _*_}
 use Rattle.finalization.specs.Receipt.{receiptBytes}
-use Rattle.text.specs.Number.{mostDigits}
+use Rattle.decimal.specs.Number.{mostDigits}
 use Rattle.tally.specs.Tally.{mostReceipts}
 
 -- the most receipts that a tally takes, end to end

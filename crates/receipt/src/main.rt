@@ -3,7 +3,7 @@ ghost use mathlib.Core.Path.{_≡_};
 ghost use Prim.Native.Nat.{_+_, _*_, _≤_};
 ghost use lib.ListN.{length};
 ghost use Rattle.finalization.specs.Receipt.{receiptBytes, digestPlace, lengthPlace};
-ghost use Rattle.text.specs.Number.{mostDigits};
+ghost use Rattle.decimal.specs.Number.{mostDigits};
 ghost use Rattle.receipt.specs.Sizes.{listBytes, nameBytes, lineBytes};
 use finalization::DIGEST;
 use finalization::LENGTH;
@@ -12,7 +12,7 @@ use libc::STDERR_FILENO;
 use libc::STDIN_FILENO;
 use libc::STDOUT_FILENO;
 use record::Record;
-use text::DIGITS;
+use decimal::DIGITS;
 
 // The bytes of the most receipts that a tally takes.
 const LIST: usize = tally::MOST_RECEIPTS * RECEIPT;
@@ -466,7 +466,7 @@ fn put_length(line: &mut [u8], from: usize, asked: bool, bits: u64) -> usize
         return from;
     }
     let after = text::put(line, from, b" ");
-    text::put_number(line, after, bits)
+    decimal::put_number(line, after, bits)
 }
 
 fn line_buffer() -> [u8; LINE]

@@ -3,7 +3,7 @@ ghost use Prim.Native.Nat.{_+_, _*_, _<_, _≤_};
 ghost use lib.ListN.{length};
 ghost use Rattle.runs.specs.Limits.{longestBlock};
 ghost use Rattle.script.specs.Numbers.{wideChain};
-ghost use Rattle.text.specs.Number.{mostDigits};
+ghost use Rattle.decimal.specs.Number.{mostDigits};
 ghost use Rattle.replay.specs.Sizes.{lineBytes, roomBytes};
 use crate::BYTES;
 use crate::LINE;
@@ -142,7 +142,7 @@ fn put_front(n: usize, line: &mut [u8], k: u64, c: Reply) -> usize
 {
     if TOO_LONG <= c.what {
         let a = text::put(line, 0, b"line ");
-        return text::put_number(line, a, k);
+        return decimal::put_number(line, a, k);
     }
     let m = words::least(n, LINE);
     let name = script::until(&line[0..m], b' ');
@@ -169,7 +169,7 @@ fn put_next(line: &mut [u8], from: usize, x: u64) -> usize
     ensures { λ r. ⌜ r ≤ from + 1 + mostDigits ⌝ }
 {
     let a = text::put(line, from, b" ");
-    text::put_number(line, a, x)
+    decimal::put_number(line, a, x)
 }
 
 // What comes behind that.

@@ -1,2 +1,1 @@
 pub mod Printing
-pub mod Digits

@@ -1,14 +1,9 @@
 // Text put together in a buffer, and bytes in it as they are printed.
 ghost use mathlib.Core.Path.{_≡_};
-ghost use Prim.Native.Nat.{_+_, _-_, _*_, _<_, _≤_};
+ghost use Prim.Native.Nat.{_+_, _*_, _<_, _≤_};
 ghost use lib.ListN.{length, replicate};
 ghost use lib.Seq.{sets};
-ghost use Rattle.io.specs.Digits.{digits, Fewest};
 ghost use Rattle.text.specs.Printed.{hexDigit, digitAt, digitsOf, printed};
-ghost use Rattle.text.specs.Number.{mostDigits};
-
-// The most digits of a number of 64 bits, for which io::decimal wants room.
-pub const DIGITS: usize = 20;
 
 // Writes one byte into every place of the output.
 pub fn fill(output: &mut [u8], x: u8)
@@ -31,16 +26,6 @@ pub fn put(output: &mut [u8], from: usize, text: &[u8]) -> usize
         output[place] = text[i];
     }
     from + n
-}
-
-// Writes the decimal digits of a number, likewise.
-pub fn put_number(output: &mut [u8], from: usize, x: u64) -> usize
-    requires { ⌜ from + mostDigits ≤ length (now output) ⌝ }
-    ensures { λ r. ⌜ (r ≤ from + mostDigits) × Fewest 10 1 x (r - from) × (now (output .exit) ≡ sets (now (output .entry)) from (digits 10 (r - from) x)) ⌝ }
-{
-    let mut number = [0u8; DIGITS];
-    let k = io::decimal(x, &mut number);
-    put(output, from, &number[..k])
 }
 
 // Writes bytes as they are printed, likewise.

@@ -1,4 +1,4 @@
--- `text::put_number` meets its contract. Assumes nothing.
+-- `decimal::put_number` meets its contract. Assumes nothing.
 use mathlib.Core.Path.{_≡_, sym, ap, _∙_, subst}
 use Prim.Native.Nat.{ℕ, _-_, _≤_}
 use native.Mathlib.Nat.{lt-of-lt-of-le}
@@ -7,10 +7,10 @@ use lib.Dec.{lit<, lit≤}
 use lib.Seq.{sets}
 use borrow.Author.Needs.{needs}
 use Rattle.io.specs.Digits.{digits, Fewest}
-use Rattle.text.specs.Number.{mostDigits}
-use Rattle.text.proofs.Digits.{fewest-most}
-use Rattle.text.proofs.put_number.Statement.{statement}
-use Rattle.text.proofs.put_number.Tie as tie
+use Rattle.decimal.specs.Number.{mostDigits}
+use Rattle.decimal.proofs.Digits.{fewest-most}
+use Rattle.decimal.proofs.put_number.Statement.{statement}
+use Rattle.decimal.proofs.put_number.Tie as tie
 
 -- a number of 64 bits has few digits
 few : (c : tie.After-decimal) → c .decimal .result ≤ mostDigits
