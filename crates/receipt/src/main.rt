@@ -5,6 +5,7 @@ ghost use lib.ListN.{length};
 ghost use Rattle.finalization.specs.Receipt.{receiptBytes, digestPlace, lengthPlace};
 ghost use Rattle.decimal.specs.Number.{mostDigits};
 ghost use Rattle.receipt.specs.Sizes.{listBytes, nameBytes, lineBytes};
+use decimal::DIGITS;
 use finalization::DIGEST;
 use finalization::LENGTH;
 use finalization::RECEIPT;
@@ -12,7 +13,6 @@ use libc::STDERR_FILENO;
 use libc::STDIN_FILENO;
 use libc::STDOUT_FILENO;
 use record::Record;
-use decimal::DIGITS;
 
 // The bytes of the most receipts that a tally takes.
 const LIST: usize = tally::MOST_RECEIPTS * RECEIPT;
