@@ -13,9 +13,9 @@ use Rattle.lsh.proofs.Figures.{amounts}
 use Rattle.lsh.proofs.Blocks.{forwards-chain}
 use Rattle.runs.specs.Limits.{longestBlock, limit}
 use Rattle.record.specs.declared.Record.{Record}
-use Rattle.record.specs.Record.{heldBytes, sound}
+use Rattle.record.specs.Record.{heldOf, heldBytes, sound}
 use Rattle.record.proofs.Sound.{Sound, sounds, chain-is, chain-below}
-use Rattle.record.proofs.Strings.{zero-after}
+use Rattle.record.proofs.Strings.{filled-zero}
 use Rattle.append.specs.Append.{appended}
 use Rattle.append.proofs.Held.{rest-length}
 
@@ -32,7 +32,7 @@ module _ (r : Record) (ok : sound r ≡ true) (words : length (r .chain) ≡ 16)
       forwards-chain Z (amounts (r .w)) (blocksOf Z (heldBytes r ++ p)) (r .chain) (chain-is (r .w) (r .chain) (is .word) words (is .below))
 
   pub appended-sound : r .total + length p ≤ limit → sound (appended r p) ≡ true
-  unfolding sound appended
+  unfolding sound appended heldOf
   appended-sound within =
       rw (is .word, is .digestLength, le-leb (r .total + length p) limit within, chain-below (r .w) (appended r p .chain) (is .word) appended-chain)
-      (zero-after (restOf Z (heldBytes r ++ p)) _ (sym (rest-length r long p)))
+      (filled-zero longestBlock (restOf Z (heldBytes r ++ p)) _ (sym (rest-length r long p)))

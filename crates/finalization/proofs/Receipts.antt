@@ -22,6 +22,7 @@ use Rattle.lsh.proofs.Bytes.{octets}
 use Rattle.message.proofs.Digest.{digest-bytes}
 use Rattle.runs.specs.Limits.{longestDigest}
 use Rattle.runs.specs.ZeroFilled.{zeroFilled}
+use Rattle.runs.proofs.Zeros.{filled-length}
 use Rattle.finalization.specs.Receipt.{receiptBytes, digestPlace, lengthPlace, receipt}
 use Rattle.finalization.proofs.FinalBytes.{length-final, final-bytes}
 
@@ -110,8 +111,7 @@ module _ (w a b : ℕ) (d l m : List ℕ) (short : length d ≤ lengthPlace - di
   unfolding receiptBytes
   put-together =
       let rest : List ℕ = replicate left 0 ++ replicate 8 0 ++ m in
-      let long : length (front ++ d ++ replicate left 0) ≡ lengthPlace =
-      length-append (front ++ d) (replicate left 0) ∙ omega (arith, length-replicate {A = ℕ} left 0) in
+      let long : length (zeroFilled lengthPlace (front ++ d)) ≡ lengthPlace = filled-length lengthPlace (front ++ d) (omega arith) in
       ap (λ (s : List ℕ). sets (sets (front ++ s) digestPlace d) lengthPlace l) zeros-apart
       ∙ ap (λ (s : List ℕ). sets s lengthPlace l)
       (sets-over front (replicate (length d) 0) rest d digestPlace refl (sym (length-replicate {A = ℕ} (length d) 0)) ∙ simp append-assoc)

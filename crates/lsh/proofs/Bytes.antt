@@ -22,11 +22,11 @@ pub record Octets (z : WordSize) : Type 0 where
   pub some : 0 < wordBytes z
   pub whole : 8 * wordBytes z ≡ z .bits
 
-pub octets256 : Octets lsh256
+octets256 : Octets lsh256
 unfolding lsh256 wordBytes
 octets256 = record { some = omega arith; whole = refl }
 
-pub octets512 : Octets lsh512
+octets512 : Octets lsh512
 unfolding lsh512 wordBytes
 octets512 = record { some = omega arith; whole = refl }
 

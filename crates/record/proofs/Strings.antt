@@ -17,18 +17,18 @@ use Rattle.lsh.proofs.Blocks.{forwards-chain}
 use Rattle.lsh.proofs.Opening.{opening-chain}
 use Rattle.lsh.proofs.Padding.{length-rest}
 use Rattle.runs.specs.Limits.{longestBlock, isDigestLength, limit}
+use Rattle.runs.specs.ZeroFilled.{zeroFilled}
 use Rattle.record.specs.Record.{heldOf, allBelow, allZero, sound, heldBytes, recordOf}
 use Rattle.record.specs.Open.{opened}
 use Rattle.record.proofs.Sound.{chain-below}
 
-pub all-zero : (k : ℕ) → allZero (replicate k 0) ≡ true
+all-zero : (k : ℕ) → allZero (replicate k 0) ≡ true
 all-zero zero = refl
 all-zero (suc k) = all-zero k
 
--- the bytes after those held are 0
-pub zero-after : (s : List ℕ) (k : ℕ) → length s ≡ k → allZero (drop k (heldOf s)) ≡ true
-unfolding heldOf
-zero-after s k size = ap allZero (drop-at s (replicate (longestBlock - length s) 0) k size) ∙ all-zero (longestBlock - length s)
+-- what fills a string is 0
+pub filled-zero : (n : ℕ) (s : List ℕ) (k : ℕ) → length s ≡ k → allZero (drop k (zeroFilled n s)) ≡ true
+filled-zero n s k size = ap allZero (drop-at s (replicate (n - length s) 0) k size) ∙ all-zero (n - length s)
 
 module _ (w n : ℕ) (m : List ℕ) (word : isWordSize w ≡ true) where
   abbrev Z : WordSize
@@ -51,8 +51,8 @@ module _ (w n : ℕ) (m : List ℕ) (word : isWordSize w ≡ true) where
   held-record = take-at (restOf Z m) (replicate (longestBlock - length (restOf Z m)) 0) (length m % blockBytes Z) size
 
   pub record-sound : isDigestLength w n ≡ true → length m ≤ limit → sound (recordOf w n m) ≡ true
-  unfolding sound recordOf
-  record-sound digest few = rw (word, digest, le-leb (length m) limit few, below) (zero-after (restOf Z m) (length m % blockBytes Z) size)
+  unfolding sound recordOf heldOf
+  record-sound digest few = rw (word, digest, le-leb (length m) limit few, below) (filled-zero longestBlock (restOf Z m) (length m % blockBytes Z) size)
 
 -- the record of no bytes is that of a new order
 pub record-none : (w n : ℕ) → recordOf w n [] ≡ opened w n

@@ -20,7 +20,7 @@ use Rattle.same.specs.WellFormed.{wellFormed, IsReceipt}
 use Rattle.same.specs.Same.{sameReceipt, isReceiptLong, sameCall}
 use Rattle.same.proofs.Formed.{receipt-of-parts}
 
-pub same-self : (r : List ℕ) → sameReceipt r r ≡ true
+same-self : (r : List ℕ) → sameReceipt r r ≡ true
 unfolding sameReceipt
 same-self r =
     rw (eq-eqb (wordSizeOf r) (wordSizeOf r) refl, eq-eqb (digestLengthOf r) (digestLengthOf r) refl, equal-self (digestOf r), eq-eqb (bitLengthOf r) (bitLengthOf r) refl)

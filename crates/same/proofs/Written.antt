@@ -9,8 +9,8 @@ use native.Mathlib.Omega.{arith}
 use borrow.Author.Tests.{eq-eqb, eqb-false, le-leb}
 use lib.Pow.{pow-add}
 use lib.Dec.{eqb}
-use lib.ListN.{length, take, drop, replicate, length-append, length-drop, length-replicate, List·getD-append}
-use lib.Seq.{length-take-le, take-at, drop-at, take-append-le, getD-append-add}
+use lib.ListN.{length, take, drop, replicate, length-append, length-drop, List·getD-append}
+use lib.Seq.{length-take-le, take-at, take-append-le, getD-append-add}
 use Rattle.lsh.specs.Tabulate.{at, tabulate}
 use Rattle.lsh.specs.WordSize.{isWordSize, sizeOf}
 use Rattle.lsh.specs.Bytes.{wordAt, byteAt}
@@ -22,6 +22,7 @@ use Rattle.lsh.proofs.Bytes.{octets, word-bytes}
 use Rattle.message.proofs.Bits.{length-bits, number-zeros}
 use Rattle.runs.specs.Limits.{longestDigest, isDigestLength, limit}
 use Rattle.runs.proofs.Limits.{digest-most, digest-longest}
+use Rattle.runs.proofs.Zeros.{filled-length}
 use Rattle.finalization.specs.Receipt.{receiptBytes, digestPlace, lengthPlace, receipt}
 use Rattle.finalization.specs.Ending.{messageBits, mostBits}
 use Rattle.finalization.proofs.FinalBytes.{length-final, at-append-zeros}
@@ -29,7 +30,7 @@ use Rattle.finalization.proofs.Ending.{message-length}
 use Rattle.record.specs.declared.Record.{Record}
 use Rattle.record.specs.Record.{allZero}
 use Rattle.record.proofs.Sound.{sounds}
-use Rattle.record.proofs.Strings.{all-zero}
+use Rattle.record.proofs.Strings.{filled-zero}
 use Rattle.whole.specs.Whole.{wholeAnswer, wholeOutput}
 use Rattle.whole.proofs.Answers as whole-answers
 use Rattle.close.specs.Close.{closeAnswer, closedDigest, closeOutput}
@@ -82,7 +83,7 @@ module _ (w n : ℕ) (d : List Bool) (bits : ℕ) (word : isWordSize w ≡ true)
   short = digest-longest w n word digestLength
 
   front-long : length (front ++ zeros) ≡ lengthPlace
-  front-long = length-append front zeros ∙ omega (arith, bytes-length, short, length-replicate {A = ℕ} (lengthPlace - length front) 0)
+  front-long = filled-length lengthPlace front (omega (arith, bytes-length, short))
 
   receipt-long : length r ≡ receiptBytes
   unfolding receipt receiptBytes
@@ -144,10 +145,8 @@ module _ (w n : ℕ) (d : List Bool) (bits : ℕ) (word : isWordSize w ≡ true)
   zero-after : zeroAfter r n ≡ true
   unfolding zeroAfter receipt
   zero-after =
-      let ends : length front ≡ digestPlace + (n + 7) / 8 = omega (arith, bytes-length) in
       ap (λ (s : List ℕ). allZero (drop (digestPlace + (n + 7) / 8) s)) (take-at (front ++ zeros) tail lengthPlace front-long)
-      ∙ ap allZero (drop-at front zeros (digestPlace + (n + 7) / 8) ends)
-      ∙ all-zero (lengthPlace - length front)
+      ∙ filled-zero lengthPlace front (digestPlace + (n + 7) / 8) (omega (arith, bytes-length))
 
   byte-1 : at r 1 ≡ 0
   unfolding receipt
