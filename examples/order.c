@@ -1,7 +1,7 @@
 /* An order of pictures, as a kiosk's driver keeps it: order FILE...
  *
- * Prints a receipt of each picture and of the order, each with the length in bits that it has, and how many prints are firsts and how many
- * reprints. Then the shopper drops the last picture: the order's record is wound back, and the receipt and the counts of what remains are
+ * Prints a receipt of each picture and of the order, each with the length in bits that it has, and how many pictures are firsts, reprints
+ * and blanks. Then the shopper drops the last picture: the order's record is wound back, and the receipt and the counts of what remains are
  * printed.
  *
  * The calls are declared, with their answers, in lsh_kiosk.h. */
@@ -113,7 +113,7 @@ static void print_tally(size_t count)
 {
     lsh_counts counts = lsh_tally(receipts[0], count * LSH_RECEIPT_BYTES);
     must_be_accepted(counts.number, "lsh_tally");
-    printf("firsts %" PRIu64 " reprints %" PRIu64 "\n", counts.firsts, counts.reprints);
+    printf("firsts %" PRIu64 " reprints %" PRIu64 " blanks %" PRIu64 "\n", counts.firsts, counts.reprints, counts.blanks);
 }
 
 /* The order with the picture at a place added: the picture's receipt is made and printed, too. */

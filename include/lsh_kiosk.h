@@ -101,10 +101,10 @@ typedef struct lsh_sameness {
 } lsh_sameness;
 
 /* The answer to lsh_tally: its number, the place of the first malformed receipt, counted from 0, if the number is LSH_MALFORMED (else 0),
- * how many receipts are firsts and how many are reprints (0 and 0 if it is refused). */
+ * and how many receipts are firsts, reprints and blanks (0 each if it is refused). */
 typedef struct lsh_counts {
     uint32_t number;
-    uint64_t place, firsts, reprints;
+    uint64_t place, firsts, reprints, blanks;
 } lsh_counts;
 
 /* The archive has these layouts. */
@@ -117,7 +117,7 @@ static_assert(offsetof(lsh_outcome, number) == 0 && offsetof(lsh_outcome, count)
 static_assert(offsetof(lsh_sameness, number) == 0 && offsetof(lsh_sameness, same) == 4 && sizeof(bool) == 1 && sizeof(lsh_sameness) == 8,
               "lsh_sameness is laid out as in the archive");
 static_assert(offsetof(lsh_counts, number) == 0 && offsetof(lsh_counts, place) == 8 && offsetof(lsh_counts, firsts) == 16
-                  && offsetof(lsh_counts, reprints) == 24 && sizeof(lsh_counts) == 32,
+                  && offsetof(lsh_counts, reprints) == 24 && offsetof(lsh_counts, blanks) == 32 && sizeof(lsh_counts) == 40,
               "lsh_counts is laid out as in the archive");
 
 /* ---- blocks ---- */
@@ -216,9 +216,9 @@ uint32_t lsh_whole(uint64_t w, uint64_t n, const uint8_t *message, size_t messag
  * the receipts is malformed: a w, byte 1 or n that no receipt has, a bit after the digest's n that is set, or a length above LSH_MOST_BITS. */
 lsh_sameness lsh_same(const uint8_t *a, size_t a_len, const uint8_t *b, size_t b_len);
 
-/* Counts a list of receipts, which stand end to end: a receipt is a first if no earlier one is the same, and a reprint if some earlier one
- * is. An empty list has neither.
- * Answers 0 and the two counts; or answers LSH_NO_RECEIPTS if the length is no multiple of LSH_RECEIPT_BYTES or there are more than
+/* Counts a list of receipts, which stand end to end: a receipt of a message without bits is a blank. Any other is a first if no earlier one is
+ * the same, and a reprint if some earlier one is. The three counts make up the number of receipts; an empty list is accepted.
+ * Answers 0 and the three counts; or answers LSH_NO_RECEIPTS if the length is no multiple of LSH_RECEIPT_BYTES or there are more than
  * LSH_MOST_RECEIPTS, then LSH_MALFORMED with the place of the first malformed receipt. */
 lsh_counts lsh_tally(const uint8_t *list, size_t list_len);
 

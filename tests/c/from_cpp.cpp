@@ -27,7 +27,7 @@ int main()
 
     good = good && dropped.number == LSH_ACCEPTED && dropped.next.total == 1
         && std::memcmp(&dropped.next, &first.next, sizeof first.next) == 0 && sameness.number == LSH_ACCEPTED && sameness.same
-        && counts.number == LSH_ACCEPTED && counts.firsts == 1 && counts.reprints == 1
+        && counts.number == LSH_ACCEPTED && counts.firsts == 1 && counts.reprints == 1 && counts.blanks == 0
         && receipts[LSH_LENGTH_PLACE] == 8 * dropped.next.total;
 
     // A piece of one checkpoint on a roll of one slot, and all of it handed back.

@@ -52,20 +52,21 @@ static lsh_counts right_tally(const uint8_t *list, size_t list_len)
 {
     size_t count = list_len / LSH_RECEIPT_BYTES;
     if (list_len % LSH_RECEIPT_BYTES != 0 || count > LSH_MOST_RECEIPTS) {
-        return (lsh_counts){LSH_NO_RECEIPTS, 0, 0, 0};
+        return (lsh_counts){LSH_NO_RECEIPTS, 0, 0, 0, 0};
     }
     for (size_t i = 0; i < count; i++) {
         if (!is_well_formed(list + i * LSH_RECEIPT_BYTES)) {
-            return (lsh_counts){LSH_MALFORMED, i, 0, 0};
+            return (lsh_counts){LSH_MALFORMED, i, 0, 0, 0};
         }
     }
-    lsh_counts counts = {LSH_ACCEPTED, 0, 0, 0};
+    lsh_counts counts = {LSH_ACCEPTED, 0, 0, 0, 0};
     for (size_t i = 0; i < count; i++) {
+        const uint8_t *receipt = list + i * LSH_RECEIPT_BYTES;
         size_t earlier = 0;
-        while (earlier < i && !agree(list + earlier * LSH_RECEIPT_BYTES, list + i * LSH_RECEIPT_BYTES)) {
+        while (earlier < i && !agree(list + earlier * LSH_RECEIPT_BYTES, receipt)) {
             earlier++;
         }
-        *(earlier < i ? &counts.reprints : &counts.firsts) += 1;
+        *(length_on(receipt) == 0 ? &counts.blanks : earlier < i ? &counts.reprints : &counts.firsts) += 1;
     }
     return counts;
 }
@@ -94,11 +95,11 @@ static struct guarded place;
 static void check_counts(const lsh_counts *counts, const lsh_counts *right, size_t list_len)
 {
     check(counts->number == right->number && counts->place == right->place && counts->firsts == right->firsts
-              && counts->reprints == right->reprints,
-          "lsh_tally of %zu bytes answers %" PRIu32 ", place %" PRIu64 ", firsts %" PRIu64 ", reprints %" PRIu64 ", not %" PRIu32
-          ", %" PRIu64 ", %" PRIu64 ", %" PRIu64,
-          list_len, counts->number, counts->place, counts->firsts, counts->reprints, right->number, right->place, right->firsts,
-          right->reprints);
+              && counts->reprints == right->reprints && counts->blanks == right->blanks,
+          "lsh_tally of %zu bytes answers %" PRIu32 ", place %" PRIu64 ", firsts %" PRIu64 ", reprints %" PRIu64 ", blanks %" PRIu64
+          ", not %" PRIu32 ", %" PRIu64 ", %" PRIu64 ", %" PRIu64 ", %" PRIu64,
+          list_len, counts->number, counts->place, counts->firsts, counts->reprints, counts->blanks, right->number, right->place,
+          right->firsts, right->reprints, right->blanks);
 }
 
 static void tally(struct guarded *list, size_t list_len)
@@ -119,8 +120,8 @@ static void tally(struct guarded *list, size_t list_len)
 /* The buffers are large, so they are not on the stack. */
 static struct guarded one, other;
 
-/* A receipt as lsh_whole writes it, of a message of at most two bytes. There are few messages, so that some receipts come again, and some
- * digests are of one bit, so that some receipts differ in the length alone. */
+/* A receipt as lsh_whole writes it, of a message of at most two bytes. There are few messages, so that some receipts come again, a third of
+ * them blanks, and some digests are of one bit, so that some receipts differ in the length alone. */
 static void write_receipt(uint8_t *receipt)
 {
     uint64_t w = below(2) == 0 ? 32 : 64;
@@ -175,7 +176,8 @@ static const uint64_t tried_bit_lengths[] = {
     2 * LSH_MOST_BITS, TWO_TO_63, UINT64_MAX,
 };
 
-/* Receipts that differ in the length alone are not the same, and each is a first in a list; above the limit they are malformed. */
+/* Receipts that differ in the length alone are not the same, and each is a first in a list, or a blank if the length is 0; above the limit they
+ * are malformed. */
 static void try_bit_lengths(void)
 {
     fill(&one);

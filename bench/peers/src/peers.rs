@@ -109,9 +109,10 @@ pub fn module_rewind<W: Word>(input: &[u8]) -> u64 {
     rewind(record, 0, input).next.chain[0]
 }
 
-/// How many of the receipts are firsts.
-pub fn module_tally(receipts: &[u8]) -> u64 {
-    tally(receipts).firsts
+/// How many of the receipts are firsts, and how many blanks.
+pub fn module_tally(receipts: &[u8]) -> (u64, u64) {
+    let counts = tally(receipts);
+    (counts.firsts, counts.blanks)
 }
 
 /// Writes the digest of a whole message where a receipt has it. A buffer is lent because the module and Crypto++ need

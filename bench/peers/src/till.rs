@@ -14,15 +14,18 @@ struct List {
     what: &'static str,
     receipts: Vec<u8>,
     firsts: usize,
+    blanks: usize,
 }
 
-/// Receipts of LSH-512-512 with the given digests and lengths in bits.
+/// Receipts of LSH-512-512 with the given digests and lengths in bits, of which so many are firsts.
 fn list(what: &'static str, firsts: usize, parts: impl FnMut(usize) -> (Vec<u8>, u64)) -> List {
-    let receipts = (0..MOST_RECEIPTS).map(parts).flat_map(|(digest, bits)| receipt(64, 512, &digest, bits)).collect();
-    List { what, receipts, firsts }
+    let parts: Vec<_> = (0..MOST_RECEIPTS).map(parts).collect();
+    let receipts = parts.iter().flat_map(|(digest, bits)| receipt(64, 512, digest, *bits)).collect();
+    let blanks = parts.iter().filter(|(_, bits)| *bits == 0).count();
+    List { what, receipts, firsts, blanks }
 }
 
-fn lists() -> [List; 5] {
+fn lists() -> [List; 6] {
     let mut random = Random::new(2);
     let base = random.bytes(64);
     let ending_in = |number: usize| {
@@ -36,21 +39,22 @@ fn lists() -> [List; 5] {
         list("all different, by the lengths", MOST_RECEIPTS, |place| (base.clone(), PICTURE + place as u64)),
         list("each twice", MOST_RECEIPTS / 2, |place| (ending_in(place / 2), PICTURE)),
         list("all the same", 1, |_| (base.clone(), PICTURE)),
+        list("all blanks, with different digests", 0, |place| (ending_in(place), 0)),
     ]
 }
 
-/// Counts each list, checks the firsts, and prints the best time.
+/// Counts each list, checks the firsts and the blanks, and prints the best time.
 pub fn print() {
     println!("\nTally of {MOST_RECEIPTS} receipts, best of {ROUNDS} rounds:\n");
     println!("| receipts                               |   ms |");
     println!("|:---------------------------------------|-----:|");
-    for List { what, receipts, firsts } in lists() {
+    for List { what, receipts, firsts, blanks } in lists() {
         let mut best = Duration::MAX;
         for _ in 0..ROUNDS {
             let start = Instant::now();
             let counted = module_tally(black_box(&receipts));
             best = best.min(start.elapsed());
-            assert_eq!(counted, firsts as u64, "{what}");
+            assert_eq!(counted, (firsts as u64, blanks as u64), "{what}");
         }
         println!("| {what:38} | {:.2} |", best.as_secs_f64() * 1e3);
     }

@@ -262,7 +262,7 @@ fn help(a: Asked) -> Asked {
           \x20 -n BITS     the digest length, 1 to 8 times the word size, the longest if it is not given\n\
           \x20 --digest    prints the digest alone\n\
           \x20 --length    adds the length of the file in bits, as the receipt has it\n\
-          \x20 --tally     adds a line: how many receipts are firsts, and how many reprints\n\
+          \x20 --tally     adds a line: how many receipts are firsts, reprints and blanks\n\
           \x20 --          ends the options\n\
           \x20 -h, --help  prints this\n",
     );
@@ -538,13 +538,15 @@ fn tally(list: &[u8], count: usize)
     }
     let end = RECEIPT * count;
     let t = tally::tally(&list[..end]);
-    print_counts(t.firsts, t.reprints);
+    print_counts(t.firsts, t.reprints, t.blanks);
 }
 
-fn print_counts(firsts: u64, reprints: u64) {
+fn print_counts(firsts: u64, reprints: u64, blanks: u64) {
     io::write_all(STDOUT_FILENO, b"firsts ");
     io::print_decimal(STDOUT_FILENO, firsts);
     io::write_all(STDOUT_FILENO, b" reprints ");
     io::print_decimal(STDOUT_FILENO, reprints);
+    io::write_all(STDOUT_FILENO, b" blanks ");
+    io::print_decimal(STDOUT_FILENO, blanks);
     io::write_all(STDOUT_FILENO, b"\n");
 }

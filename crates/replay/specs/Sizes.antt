@@ -19,7 +19,11 @@ rollBytes = 65536
 abbrev pub lentBytes : ℕ
 lentBytes = stringBytes + rollBytes
 
--- ROOM: the bytes of the line buffer. What a line prints stands behind the line's name: four numbers at most, and then the digits of BYTES bytes at
+-- NUMBERS: the most numbers that a line prints
+abbrev pub mostNumbers : ℕ
+mostNumbers = 5
+
+-- ROOM: the bytes of the line buffer. What a line prints stands behind the line's name: its numbers, and then the digits of BYTES bytes at
 -- most, or those of a chain and of the held bytes
 abbrev pub roomBytes : ℕ
 roomBytes = 2 * lineBytes + 1024

@@ -23,7 +23,7 @@ pub fn tally(v: [u64; WORDS], r: Record, given: &[u8]) -> Reply {
     let t = tally::tally(words::part(given, 0, v[0]));
     let number = t.number as u64;
     if number == 14 {
-        return reply::numbers(4, [number, t.place, t.firsts, t.reprints], r);
+        return reply::numbers(5, [number, t.place, t.firsts, t.reprints, t.blanks], r);
     }
-    reply::numbers(3, [number, t.firsts, t.reprints, 0], r)
+    reply::numbers(4, [number, t.firsts, t.reprints, t.blanks, 0], r)
 }

@@ -4,7 +4,7 @@ ghost use lib.ListN.{length};
 ghost use Rattle.runs.specs.Limits.{longestBlock};
 ghost use Rattle.script.specs.Numbers.{wideChain};
 ghost use Rattle.decimal.specs.Number.{mostDigits};
-ghost use Rattle.replay.specs.Sizes.{lineBytes, roomBytes};
+ghost use Rattle.replay.specs.Sizes.{lineBytes, mostNumbers, roomBytes};
 use crate::BYTES;
 use crate::LINE;
 use crate::words;
@@ -13,6 +13,9 @@ use libc::STDOUT_FILENO;
 use record::Record;
 use runs::LONGEST_BLOCK;
 use script::WIDE_CHAIN;
+
+// The most numbers that a line prints.
+const NUMBERS: usize = 5;
 
 // What comes behind the name of a line and its numbers: nothing, yes, no, a part of what the call was lent, or the words of the record.
 pub const NAME: u32 = 0;
@@ -37,7 +40,7 @@ pub const NOT_A_CALL: u32 = 7;
 pub struct Reply {
     what: u32,
     count: usize,
-    numbers: [u64; 4],
+    numbers: [u64; NUMBERS],
     from: u64,
     to: u64,
     pub next: Record,
@@ -45,7 +48,7 @@ pub struct Reply {
     pub roll: u64,
 }
 
-fn reply_of(what: u32, count: usize, numbers: [u64; 4], r: Record) -> Reply {
+fn reply_of(what: u32, count: usize, numbers: [u64; NUMBERS], r: Record) -> Reply {
     let x = numbers;
     Reply {
         what: what,
@@ -65,19 +68,19 @@ pub fn with_roll(size: u64, mut c: Reply) -> Reply {
 }
 
 pub fn plain(what: u32, r: Record) -> Reply {
-    reply_of(what, 0, [0, 0, 0, 0], r)
+    reply_of(what, 0, [0; NUMBERS], r)
 }
 
-pub fn numbers(count: usize, numbers: [u64; 4], r: Record) -> Reply {
+pub fn numbers(count: usize, numbers: [u64; NUMBERS], r: Record) -> Reply {
     reply_of(NAME, count, numbers, r)
 }
 
 pub fn number(number: u32, r: Record) -> Reply {
-    numbers(1, [number as u64, 0, 0, 0], r)
+    numbers(1, [number as u64, 0, 0, 0, 0], r)
 }
 
 pub fn count(number: u32, count: u64, r: Record) -> Reply {
-    numbers(2, [number as u64, count, 0, 0], r)
+    numbers(2, [number as u64, count, 0, 0, 0], r)
 }
 
 // A yes or a no, which only 0 comes with.
@@ -86,25 +89,25 @@ pub fn truth(answer: u32, is: bool, r: Record) -> Reply {
         return number(answer, r);
     }
     if is {
-        return reply_of(YES, 1, [0, 0, 0, 0], r);
+        return reply_of(YES, 1, [0; NUMBERS], r);
     }
-    reply_of(NO, 1, [0, 0, 0, 0], r)
+    reply_of(NO, 1, [0; NUMBERS], r)
 }
 
 // The first size bytes of the output.
 pub fn output(number: u32, size: u64, r: Record) -> Reply {
-    let mut c = reply_of(LENT, 1, [number as u64, 0, 0, 0], r);
+    let mut c = reply_of(LENT, 1, [number as u64, 0, 0, 0, 0], r);
     c.to = size;
     c
 }
 
 pub fn record(r: Record) -> Reply {
-    reply_of(RECORD, 3, [r.w, r.n, r.total, 0], r)
+    reply_of(RECORD, 3, [r.w, r.n, r.total, 0, 0], r)
 }
 
 // The roll, which has size bytes and stands behind the room for an output.
 pub fn roll(size: u64, r: Record) -> Reply {
-    let mut c = reply_of(LENT, 0, [0, 0, 0, 0], r);
+    let mut c = reply_of(LENT, 0, [0; NUMBERS], r);
     c.from = BYTES as u64;
     c.to = std::num::wrapping_add_u64(BYTES as u64, size);
     c
@@ -138,7 +141,7 @@ fn write(line: &mut [u8], n: usize) -> bool
 // Puts the front of what is printed into the buffer, and returns the place after it, as the following do.
 fn put_front(n: usize, line: &mut [u8], k: u64, c: Reply) -> usize
     requires { ⌜ roomBytes ≤ length (now line) ⌝ }
-    ensures { λ r. ⌜ r ≤ lineBytes + 4 * (1 + mostDigits) ⌝ }
+    ensures { λ r. ⌜ r ≤ lineBytes + mostNumbers * (1 + mostDigits) ⌝ }
 {
     if TOO_LONG <= c.what {
         let a = text::put(line, 0, b"line ");
@@ -151,12 +154,12 @@ fn put_front(n: usize, line: &mut [u8], k: u64, c: Reply) -> usize
 }
 
 // The first count of the numbers, a space before each.
-fn put_numbers(line: &mut [u8], from: usize, count: usize, numbers: [u64; 4]) -> usize
-    requires { ⌜ from + 4 * (1 + mostDigits) ≤ length (now line) ⌝ }
-    ensures { λ r. ⌜ r ≤ from + 4 * (1 + mostDigits) ⌝ }
+fn put_numbers(line: &mut [u8], from: usize, count: usize, numbers: [u64; NUMBERS]) -> usize
+    requires { ⌜ from + mostNumbers * (1 + mostDigits) ≤ length (now line) ⌝ }
+    ensures { λ r. ⌜ r ≤ from + mostNumbers * (1 + mostDigits) ⌝ }
 {
     let x = numbers;
-    let n = words::least(count, 4);
+    let n = words::least(count, NUMBERS);
     let mut at = from;
     for i in 0..n {
         at = put_next(line, at, x[i]);
@@ -174,7 +177,7 @@ fn put_next(line: &mut [u8], from: usize, x: u64) -> usize
 
 // What comes behind that.
 fn put_rest(line: &mut [u8], from: usize, c: Reply, lent: &[u8]) -> usize
-    requires { ⌜ (roomBytes ≤ length (now line)) × (from ≤ lineBytes + 4 * (1 + mostDigits)) ⌝ }
+    requires { ⌜ (roomBytes ≤ length (now line)) × (from ≤ lineBytes + mostNumbers * (1 + mostDigits)) ⌝ }
     ensures { λ r. ⌜ r < roomBytes ⌝ }
 {
     let what = c.what;
@@ -186,7 +189,7 @@ fn put_rest(line: &mut [u8], from: usize, c: Reply, lent: &[u8]) -> usize
 }
 
 fn put_words(line: &mut [u8], from: usize, what: u32) -> usize
-    requires { ⌜ (roomBytes ≤ length (now line)) × (from ≤ lineBytes + 4 * (1 + mostDigits)) ⌝ }
+    requires { ⌜ (roomBytes ≤ length (now line)) × (from ≤ lineBytes + mostNumbers * (1 + mostDigits)) ⌝ }
     ensures { λ r. ⌜ r < roomBytes ⌝ }
 {
     match what {
@@ -200,7 +203,7 @@ fn put_words(line: &mut [u8], from: usize, what: u32) -> usize
 
 // A part of what calls are lent: an output or the roll, at most as many bytes as a line can say.
 fn put_part(line: &mut [u8], from: usize, part: &[u8]) -> usize
-    requires { ⌜ (roomBytes ≤ length (now line)) × (from ≤ lineBytes + 4 * (1 + mostDigits)) ⌝ }
+    requires { ⌜ (roomBytes ≤ length (now line)) × (from ≤ lineBytes + mostNumbers * (1 + mostDigits)) ⌝ }
     ensures { λ r. ⌜ r < roomBytes ⌝ }
 {
     let n = words::least(part.len(), BYTES);
@@ -218,7 +221,7 @@ fn put_bytes(line: &mut [u8], from: usize, s: &[u8]) -> usize
 
 // The chain and the held bytes of the record.
 fn put_record(line: &mut [u8], from: usize, r: Record) -> usize
-    requires { ⌜ (roomBytes ≤ length (now line)) × (from ≤ lineBytes + 4 * (1 + mostDigits)) ⌝ }
+    requires { ⌜ (roomBytes ≤ length (now line)) × (from ≤ lineBytes + mostNumbers * (1 + mostDigits)) ⌝ }
     ensures { λ e. ⌜ e < roomBytes ⌝ }
 {
     let chain = r.chain;

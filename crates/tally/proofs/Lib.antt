@@ -2,6 +2,7 @@
 pub mod Places
 pub mod Malformed
 pub mod Sums
+pub mod Blanks
 pub mod Counting
 pub mod Answers
 pub mod Totals

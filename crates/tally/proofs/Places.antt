@@ -10,7 +10,8 @@ use lib.ListN.{length, take, drop, length-drop}
 use lib.Seq.{length-take-le}
 use Rattle.finalization.specs.Receipt.{receiptBytes}
 use Rattle.same.specs.Same.{sameReceipt}
-use Rattle.tally.specs.Tally.{receiptCount, receiptAt, receipts, isOneOf}
+use Rattle.tally.specs.Kinds.{isOneOf}
+use Rattle.tally.specs.Tally.{receiptCount, receiptAt, receipts}
 
 -- `&s[from..to]`
 pub part-is : (s : List ℕ) (i : ℕ) → take ((i + 1) * receiptBytes - ((i + 1) * receiptBytes - receiptBytes)) (drop ((i + 1) * receiptBytes - receiptBytes) s) ≡ receiptAt s i

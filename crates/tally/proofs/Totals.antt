@@ -10,7 +10,8 @@ use lib.Dec.{ltb}
 use Rattle.finalization.specs.Receipt.{receiptBytes}
 use Rattle.same.specs.WellFormed.{wellFormed}
 use Rattle.tally.specs.declared.Counts.{Counts}
-use Rattle.tally.specs.Tally.{mostReceipts, receiptCount, receiptAt, receipts, firstMalformed, firsts, reprints, isBadLength, refusedTally, counted, tallyCall}
+use Rattle.tally.specs.Kinds.{howMany, firsts, reprints, blanks}
+use Rattle.tally.specs.Tally.{mostReceipts, receiptCount, receiptAt, receipts, firstMalformed, isBadLength, refusedTally, counted, tallyCall}
 use Rattle.tally.proofs.Malformed.{place-malformed, before-well-formed}
 use Rattle.tally.proofs.Counting.{all-counted, length-receipts}
 
@@ -25,13 +26,13 @@ module _ (s : List ℕ) where
   abbrev rs : List (List ℕ)
   rs = receipts s (receiptCount s)
 
-  -- firsts and reprints of an accepted tally are all receipts
-  pub tally-total : tallyCall s .number ≡ 0 → tallyCall s .firsts + tallyCall s .reprints ≡ receiptCount s
+  -- the sum of the three counts of an accepted tally
+  pub tally-total : tallyCall s .number ≡ 0 → tallyCall s .firsts + tallyCall s .reprints + tallyCall s .blanks ≡ receiptCount s
   unfolding tallyCall refusedTally counted
   tally-total taken = go (isBadLength s) (ltb place (receiptCount s)) taken
     where
       go : (bad malformed : Bool) → answer bad malformed place rs .number ≡ 0
-          → answer bad malformed place rs .firsts + answer bad malformed place rs .reprints ≡ receiptCount s
+          → answer bad malformed place rs .firsts + answer bad malformed place rs .reprints + answer bad malformed place rs .blanks ≡ receiptCount s
       go false false is = all-counted rs ∙ length-receipts s (receiptCount s)
       go false true is = absurd (omega arith)
       go true malformed is = absurd (omega arith)
@@ -52,6 +53,6 @@ module _ (s : List ℕ) where
       go false false is said = absurd (omega arith)
       go true malformed is said = absurd (omega arith)
 
-pub tally-empty : tallyCall [] ≡ record { number = 0; place = 0; firsts = 0; reprints = 0 }
-unfolding tallyCall isBadLength receiptCount receiptBytes mostReceipts receipts firstMalformed counted firsts reprints
+pub tally-empty : tallyCall [] ≡ record { number = 0; place = 0; firsts = 0; reprints = 0; blanks = 0 }
+unfolding tallyCall isBadLength receiptCount receiptBytes mostReceipts receipts firstMalformed counted firsts reprints blanks howMany
 tally-empty = refl

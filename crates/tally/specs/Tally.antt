@@ -1,14 +1,14 @@
--- Tally of document 01: the answer's number, the place of a malformed receipt, firsts and reprints.
+-- Tally of document 01, with the three counts of W4 of document 02: the answer's number, the place of a malformed receipt, and the counts.
 -- Assumes nothing.
-use mathlib.Core.Bool.{Bool, false, not, cond, _||_}
+use mathlib.Core.Bool.{Bool, not, cond, _||_}
 use mathlib.Core.List.{List, [], _∷_}
-use Prim.Native.Nat.{ℕ, zero, suc, _+_, _*_, _/_, _%_}
+use Prim.Native.Nat.{ℕ, zero, suc, _*_, _/_, _%_}
 use lib.Dec.{eqb, ltb}
 use lib.ListN.{length, take, drop}
 use Rattle.finalization.specs.Receipt.{receiptBytes}
 use Rattle.same.specs.WellFormed.{wellFormed}
-use Rattle.same.specs.Same.{sameReceipt}
 use Rattle.tally.specs.declared.Counts.{Counts}
+use Rattle.tally.specs.Kinds.{firsts, reprints, blanks}
 
 -- the most receipts of a list
 unfoldable pub mostReceipts : ℕ
@@ -22,7 +22,7 @@ receiptCount s = length s / receiptBytes
 unfoldable pub receiptAt : List ℕ → ℕ → List ℕ
 receiptAt s i = take receiptBytes (drop (i * receiptBytes) s)
 
--- the first k of them, the last one at the head, so that behind each stand the earlier ones
+-- the first k of them, the last one at the head
 unfoldable pub receipts : List ℕ → ℕ → List (List ℕ)
 receipts s zero = []
 receipts s (suc k) = receiptAt s k ∷ receipts s k
@@ -32,30 +32,16 @@ unfoldable pub firstMalformed : List ℕ → ℕ → ℕ → ℕ
 firstMalformed s i zero = i
 firstMalformed s i (suc k) = cond (wellFormed (receiptAt s i)) (firstMalformed s (suc i) k) i
 
--- the receipt r is the same as one of these
-unfoldable pub isOneOf : List ℕ → List (List ℕ) → Bool
-isOneOf r [] = false
-isOneOf r (x ∷ xs) = sameReceipt r x || isOneOf r xs
-
--- how many of these receipts are the same as no earlier one, and how many are the same as some earlier one
-unfoldable pub firsts : List (List ℕ) → ℕ
-firsts [] = 0
-firsts (r ∷ earlier) = cond (isOneOf r earlier) (firsts earlier) (firsts earlier + 1)
-
-unfoldable pub reprints : List (List ℕ) → ℕ
-reprints [] = 0
-reprints (r ∷ earlier) = cond (isOneOf r earlier) (reprints earlier + 1) (reprints earlier)
-
 -- s is no list of whole receipts, or has too many
 unfoldable pub isBadLength : List ℕ → Bool
 isBadLength s = not (eqb (length s % receiptBytes) 0) || ltb (mostReceipts * receiptBytes) (length s)
 
 -- a refused tally, with the place of a malformed receipt or 0
 unfoldable pub refusedTally : ℕ → ℕ → Counts
-refusedTally number place = record { number = number; place = place; firsts = 0; reprints = 0 }
+refusedTally number place = record { number = number; place = place; firsts = 0; reprints = 0; blanks = 0 }
 
 unfoldable pub counted : List (List ℕ) → Counts
-counted rs = record { number = 0; place = 0; firsts = firsts rs; reprints = reprints rs }
+counted rs = record { number = 0; place = 0; firsts = firsts rs; reprints = reprints rs; blanks = blanks rs }
 
 -- Tally: 13 if the length is wrong, then 14 with the place of the first malformed receipt, else 0 and the counts
 unfoldable pub tallyCall : List ℕ → Counts

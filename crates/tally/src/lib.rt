@@ -5,7 +5,8 @@ ghost use lib.ListN.{length};
 ghost use Rattle.lsh.specs.Tabulate.{at};
 ghost use Rattle.finalization.specs.Receipt.{receiptBytes};
 ghost use Rattle.same.specs.WellFormed.{IsReceipt};
-ghost use Rattle.tally.specs.Tally.{mostReceipts, receiptCount, receiptAt, receipts, firstMalformed, isOneOf, counted, refusedTally, tallyCall};
+ghost use Rattle.tally.specs.Kinds.{isBlank, isOneOf};
+ghost use Rattle.tally.specs.Tally.{mostReceipts, receiptCount, receiptAt, receipts, firstMalformed, counted, refusedTally, tallyCall};
 ghost use Rattle.tally.specs.Checksum.{checksum};
 use finalization::RECEIPT;
 
@@ -22,6 +23,7 @@ pub struct Counts {
     pub place: u64,
     pub firsts: u64,
     pub reprints: u64,
+    pub blanks: u64,
 }
 
 // Counts the receipts of a list.
@@ -50,6 +52,7 @@ fn refusal(number: u32, place: u64) -> Counts
         place: place,
         firsts: 0,
         reprints: 0,
+        blanks: 0,
     }
 }
 
@@ -87,9 +90,12 @@ fn count(list: &[u8]) -> Counts
     let sums = checksums(list);
     let mut firsts: u64 = 0;
     let mut reprints: u64 = 0;
+    let mut blanks: u64 = 0;
     let mut i: usize = 0;
     while i < end {
-        if is_reprint(list, &sums, i) {
+        if is_blank(receipt_at(list, i)) {
+            blanks += 1;
+        } else if came_before(list, &sums, i) {
             reprints += 1;
         } else {
             firsts += 1;
@@ -101,11 +107,20 @@ fn count(list: &[u8]) -> Counts
         place: 0,
         firsts: firsts,
         reprints: reprints,
+        blanks: blanks,
     }
 }
 
+// Whether a receipt is that of a message without bits.
+fn is_blank(r: &[u8]) -> bool
+    requires { ⌜ length (now r) ≡ receiptBytes ⌝ }
+    ensures { λ b. ⌜ b ≡ isBlank (now (r .entry)) ⌝ }
+{
+    same::bit_length_of(r) == 0
+}
+
 // Whether the receipt at place i is the same as an earlier one. All bytes are compared only where the checksums agree.
-fn is_reprint(list: &[u8], sums: &[u64; MOST_RECEIPTS], i: usize) -> bool
+fn came_before(list: &[u8], sums: &[u64; MOST_RECEIPTS], i: usize) -> bool
     requires { ⌜ (i < mostReceipts) × (i < receiptCount (now list)) × ((j : ℕ) → j ≤ i → IsReceipt (receiptAt (now list) j)) × ((j : ℕ) → j ≤ i → at (now sums) j ≡ checksum (receiptAt (now list) j)) ⌝ }
     ensures { λ b. ⌜ b ≡ isOneOf (receiptAt (now (list .entry)) i) (receipts (now (list .entry)) i) ⌝ }
 {

@@ -82,6 +82,7 @@ pub struct Counts {
     pub place: u64,
     pub firsts: u64,
     pub reprints: u64,
+    pub blanks: u64,
 }
 
 mod c {

@@ -1,14 +1,15 @@
-//! Same and Tally against a model written here: a receipt's form by its fields, and firsts by a set. Each call is made through the archive
-//! and once more through the program replay.
+//! Same and Tally against a model written here: a receipt's form by its fields, blanks by the length, and firsts by a set. Each call is made
+//! through the archive and once more through the program replay.
 
 use compare::{
     bit_length, hex, replay, Counts, Random, Sameness, ACCEPTED, DIGEST_PLACE, LENGTH_PLACE, MALFORMED, MOST_BITS,
     MOST_RECEIPTS, NO_RECEIPTS, RECEIPT_BYTES,
 };
+use lsh_ref::Word;
 use std::collections::HashSet;
 
 /// The answer of an accepted tally of no receipts.
-const NO_COUNTS: Counts = Counts { number: ACCEPTED, place: 0, firsts: 0, reprints: 0 };
+const NO_COUNTS: Counts = Counts { number: ACCEPTED, place: 0, firsts: 0, reprints: 0, blanks: 0 };
 
 type Receipt = [u8; RECEIPT_BYTES];
 
@@ -115,8 +116,14 @@ fn right_counts(receipts: &[Receipt], malformed: Option<usize>) -> Counts {
     if let Some(place) = malformed {
         return Counts { number: MALFORMED, place: place as u64, ..NO_COUNTS };
     }
-    let firsts = receipts.iter().map(fields).collect::<HashSet<_>>().len();
-    Counts { firsts: firsts as u64, reprints: (receipts.len() - firsts) as u64, ..NO_COUNTS }
+    let prints: Vec<_> = receipts.iter().map(fields).filter(|&(.., bits)| bits != 0).collect();
+    let firsts = prints.iter().collect::<HashSet<_>>().len();
+    Counts {
+        firsts: firsts as u64,
+        reprints: (prints.len() - firsts) as u64,
+        blanks: (receipts.len() - prints.len()) as u64,
+        ..NO_COUNTS
+    }
 }
 
 /// Calls of the archive as they are made, and the script that makes them once more with the answers that replay has to print.
@@ -139,9 +146,9 @@ impl Calls {
 
     fn tally_bytes(&mut self, list: &[u8], right: Counts) {
         assert_eq!(compare::tally(list), right);
-        let Counts { number, place, firsts, reprints } = right;
+        let Counts { number, place, firsts, reprints, blanks } = right;
         let place = if number == MALFORMED { format!(" {place}") } else { String::new() };
-        self.line(format!("tally {}", hex(list)), format!("tally {number}{place} {firsts} {reprints}"));
+        self.line(format!("tally {}", hex(list)), format!("tally {number}{place} {firsts} {reprints} {blanks}"));
     }
 
     fn same(&mut self, a: &[u8], b: &[u8], number: u32, same: bool) {
@@ -192,10 +199,40 @@ fn the_most_receipts_and_one_more() {
         let different: Vec<Receipt> = (0..count).map(|_| receipt(64, 512, MOST_BITS, &mut random)).collect();
         calls.tally(&different, None);
         calls.tally(&vec![different[0]; count], None);
+        calls.tally(&vec![with_length(different[0], 0); count], None);
         let by_length: Vec<Receipt> = (0..count).map(|place| with_length(different[0], place as u64)).collect();
         calls.tally(&by_length, None);
         calls.tally(&random_list(count, &mut random), None);
     }
+    calls.replay();
+}
+
+/// A blank is known by its length: the receipt of no bits is one, as Whole writes it and with any other digest, and the digest of no bits with
+/// another length is none.
+fn try_blanks<W: Word>(calls: &mut Calls, random: &mut Random) {
+    let w = W::BITS as u64;
+    for n in 1..=8 * w {
+        let digest = lsh_ref::hash_bits::<W>(n, &[], 0, 0);
+        let blank: Receipt = compare::receipt(w, n, &digest, 0).try_into().unwrap();
+        let mut written = [0; RECEIPT_BYTES];
+        assert_eq!((compare::whole(w, n, &[], 0, 0, &mut written), written), (ACCEPTED, blank), "w = {w}, n = {n}");
+
+        let other = receipt(w, n, 0, random);
+        calls.tally_bytes(&[blank, other, blank].concat(), Counts { blanks: 3, ..NO_COUNTS });
+        let print = with_length(blank, 1 + random.below(MOST_BITS));
+        calls.tally_bytes(
+            &[print, blank, print].concat(),
+            Counts { firsts: 1, reprints: 1, blanks: 1, ..NO_COUNTS },
+        );
+    }
+}
+
+#[test]
+fn blanks() {
+    let mut random = Random::new(17);
+    let mut calls = Calls::default();
+    try_blanks::<u32>(&mut calls, &mut random);
+    try_blanks::<u64>(&mut calls, &mut random);
     calls.replay();
 }
 
@@ -204,7 +241,7 @@ fn the_most_receipts_and_one_more() {
 fn receipts_that_differ_in_one_bit() {
     let mut random = Random::new(13);
     let mut calls = Calls::default();
-    let one = receipt(64, 512, 0, &mut random);
+    let one = receipt(64, 512, 1, &mut random);
     let mut list = vec![one];
     for place in DIGEST_PLACE..LENGTH_PLACE {
         let mut other = one;
@@ -215,7 +252,7 @@ fn receipts_that_differ_in_one_bit() {
     calls.tally(&list, None);
 
     // The digest's bits are all 0, so that another n and another w leave the receipt well formed.
-    let mut zeros = [0; RECEIPT_BYTES];
+    let mut zeros = with_length([0; RECEIPT_BYTES], 1);
     zeros[..DIGEST_PLACE].copy_from_slice(&[32, 0, 8, 0]);
     let mut longer = zeros;
     longer[2] = 9;
@@ -246,10 +283,11 @@ fn receipts_that_differ_in_the_length() {
             calls.tally(&[one, other], Some(1));
         }
     }
-    let count = list.len() as u64;
+    // The one of length 0 is a blank.
+    let count = list.len() as u64 - 1;
     let list = list.concat();
-    calls.tally_bytes(&list, Counts { firsts: count, ..NO_COUNTS });
-    calls.tally_bytes(&list.repeat(2), Counts { firsts: count, reprints: count, ..NO_COUNTS });
+    calls.tally_bytes(&list, Counts { firsts: count, blanks: 1, ..NO_COUNTS });
+    calls.tally_bytes(&list.repeat(2), Counts { firsts: count, reprints: count, blanks: 2, ..NO_COUNTS });
 
     // At the limit.
     let most = with_length(one, MOST_BITS);

@@ -1,19 +1,22 @@
 -- `tally::count` meets its contract. Assumes nothing.
-use mathlib.Core.Path.{sym, _∙_}
+use mathlib.Core.Path.{refl, sym, ap, _∙_}
 use mathlib.Core.Logic.{⊎-elim}
 use Prim.Native.Nat.{_-_, _≤_, zero-le}
 use native.Mathlib.Omega.{arith}
+use lib.ListN.{length}
 use Rattle.finalization.specs.Receipt.{receiptBytes}
+use Rattle.tally.specs.Kinds.{isBlank}
 use Rattle.tally.specs.Tally.{mostReceipts, receiptCount, counted}
-use Rattle.tally.proofs.Counting.{Counted, counted-none, together, one-reprint, one-first, all-done}
+use Rattle.tally.proofs.Places.{receipt-length}
+use Rattle.tally.proofs.Counting.{Counted, counted-none, together, one-more, all-done}
 use Rattle.tally.proofs.count.Statement.{statement}
 use Rattle.tally.proofs.count.Tie as tie
 
 abbrev Inv-loop : tie.InvT-loop
-Inv-loop list end sums firsts₀ reprints₀ i₀ firsts reprints i = (i ≤ receiptCount list) × Counted list firsts reprints i
+Inv-loop list end sums firsts₀ reprints₀ blanks₀ i₀ firsts reprints blanks i = (i ≤ receiptCount list) × Counted list firsts reprints blanks i
 
 abbrev μ-loop : tie.MeasureT-loop
-μ-loop list end sums firsts₀ reprints₀ i₀ firsts reprints i = end - i
+μ-loop list end sums firsts₀ reprints₀ blanks₀ i₀ firsts reprints blanks i = end - i
 
 pub count-spec : {M : Type 1} → statement M
 unfolding mostReceipts receiptCount receiptBytes counted
@@ -24,19 +27,26 @@ count-spec =
     μ-loop
     (λ c κs. c .before .pre .0)
     (λ c. (zero-le, counted-none _))
+    (λ c κs. omega arith)
+    (λ c κs. ap length (c .receipt-at .ensures) ∙ receipt-length _ _ (omega arith))
+    (λ c. omega (arith, together (c .before .before .before .before .loop .inv .1)))
     (λ c κs.
-    let l = c .before .before in
+    let l = c .before .before .before .before .before in
     (omega arith, omega arith, λ j h. l .before .before .before .pre .1 j (omega arith), λ j h. l .before .checksums .ensures j (omega arith)))
-    (λ c. omega (arith, together (c .before .before .before .before .loop .inv .1)))
-    (λ c. omega (arith, together (c .before .before .before .before .loop .inv .1)))
+    (λ c. omega (arith, together (c .before .before .before .before .before .before .before .loop .inv .1)))
+    (λ c. omega (arith, together (c .before .before .before .before .before .before .before .loop .inv .1)))
     (λ c. omega arith)
     (λ c. omega arith)
     (λ c.
-    let l = c .before .before .before .before in (
+    let l = c .before .before .before .before in
+    let h = l .loop .inv .1 in
+    let blank = sym (ap isBlank (c .before .before .receipt-at .ensures)) ∙ sym (c .before .is-blank .ensures) in (
       omega arith,
       ⊎-elim
-          (λ w. one-reprint (l .loop .inv .1) (sym (c .before .is-reprint .ensures) ∙ w .0 .taken) (w .1) (w .2))
-          (λ w. one-first (l .loop .inv .1) (sym (c .before .is-reprint .ensures) ∙ w .0 .left) (w .1) (w .2))
+          (λ w. one-more h (blank ∙ w .0 .taken) refl (w .1) (w .2) (w .3))
+          (⊎-elim
+          (λ w. one-more h (blank ∙ w .0 .left) (sym (w .2 .ensures) ∙ w .3 .taken) (w .4) (w .5) (w .6))
+          (λ w. one-more h (blank ∙ w .0 .left) (sym (w .2 .ensures) ∙ w .3 .left) (w .4) (w .5) (w .6)))
           (c .if1 .came),
     ))
     (λ c. all-done (c .before .loop .inv .1) (omega arith)))

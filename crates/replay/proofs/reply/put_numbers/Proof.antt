@@ -3,11 +3,13 @@ use mathlib.Core.Path.{_≡_, refl}
 use Prim.Native.Nat.{_+_, _-_, _*_, _≤_}
 use native.Mathlib.Omega.{arith}
 use lib.ListN.{length}
+use Rattle.decimal.specs.Number.{mostDigits}
+use Rattle.replay.specs.Sizes.{mostNumbers}
 use Rattle.replay.proofs.reply.put_numbers.Statement.{statement}
 use Rattle.replay.proofs.reply.put_numbers.Tie as tie
 
 abbrev Inv-loop : tie.InvT-loop
-Inv-loop line₀ from count x n at₀ i₀ line at i = (i ≤ n) × (n ≤ 4) × (at ≤ from + 21 * i) × (length line ≡ length line₀)
+Inv-loop line₀ from count x n at₀ i₀ line at i = (i ≤ n) × (n ≤ mostNumbers) × (at ≤ from + (1 + mostDigits) * i) × (length line ≡ length line₀)
 
 abbrev μ-loop : tie.MeasureT-loop
 μ-loop line₀ from count x n at₀ i₀ line at i = n - i

@@ -1,4 +1,4 @@
--- `tally::is_reprint` meets its contract: before each turn the receipt is the same as none of those from place j on. Assumes nothing.
+-- `tally::came_before` meets its contract: before each turn the receipt is the same as none of those from place j on. Assumes nothing.
 use mathlib.Core.Path.{_≡_, refl, sym, ap₂, _∙_, subst}
 use Prim.Native.Nat.{_-_, _≤_}
 use native.Mathlib.Omega.{arith}
@@ -7,8 +7,8 @@ use Rattle.same.specs.Same.{sameReceipt}
 use Rattle.tally.specs.Tally.{mostReceipts, receiptAt}
 use Rattle.tally.proofs.Places.{Left, found, not-found, none-left}
 use Rattle.tally.proofs.Sums.{sums-differ}
-use Rattle.tally.proofs.is_reprint.Statement.{statement}
-use Rattle.tally.proofs.is_reprint.Tie as tie
+use Rattle.tally.proofs.came_before.Statement.{statement}
+use Rattle.tally.proofs.came_before.Tie as tie
 
 abbrev Inv-loop : tie.InvT-loop
 Inv-loop list sums i sum j₀ j = (j ≤ i) × Left (receiptAt list i) list i j
@@ -23,9 +23,9 @@ compared : (c : tie.After-all-agree Inv-loop μ-loop)
     (receiptAt (c .before .before .before .before .before .before .before .before .before .args .list .now) (c .before .before .before .before .before .before .loop .j - 1))
 compared c = c .all-agree .ensures ∙ ap₂ sameReceipt (c .before .before .receipt-at .ensures) (c .before .receipt-at2 .ensures)
 
-pub is-reprint-spec : {M : Type 1} → statement M
+pub came-before-spec : {M : Type 1} → statement M
 unfolding mostReceipts
-is-reprint-spec =
+came-before-spec =
     tie.close
     (tie.spec
     Inv-loop
