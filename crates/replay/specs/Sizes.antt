@@ -19,7 +19,7 @@ rollBytes = 65536
 abbrev pub lentBytes : ℕ
 lentBytes = stringBytes + rollBytes
 
--- NUMBERS: the most numbers that a line prints
+-- NUMBERS: the most numbers that a line prints; `put_numbers` is proved to have room for them only if the code has no more
 abbrev pub mostNumbers : ℕ
 mostNumbers = 5
 
