@@ -61,11 +61,7 @@ module _ {s : List ℕ} {f r b i : ℕ} (h : Counted s f r b i) where
   pub all-done : i ≡ receiptCount s → record { number = 0; place = 0; firsts = f; reprints = r; blanks = b } ≡ counted (receipts s (receiptCount s))
   unfolding counted
   all-done e =
-      λ k.
-      record {
-        number = 0;
-        place = 0;
-        firsts = (h .firstsAre ∙ ap (λ (n : ℕ). firsts (receipts s n)) e) k;
-        reprints = (h .reprintsAre ∙ ap (λ (n : ℕ). reprints (receipts s n)) e) k;
-        blanks = (h .blanksAre ∙ ap (λ (n : ℕ). blanks (receipts s n)) e) k;
-      }
+      let first-i : record { number = 0; place = 0; firsts = f; reprints = r; blanks = b } ≡ counted (receipts s i) =
+      λ k. record { number = 0; place = 0; firsts = h .firstsAre k; reprints = h .reprintsAre k; blanks = h .blanksAre k }
+      in
+      first-i ∙ ap (λ (n : ℕ). counted (receipts s n)) e

@@ -1,4 +1,5 @@
--- The three kinds of receipts in a list, which are blanks, reprints and firsts (W4 of document 02), and how many there are of each.
+-- The three kinds of receipts in a list, which are blanks, reprints and firsts (Tally of document 01, with W4 of document 02), and how many there are
+-- of each.
 -- A list has the latest receipt at its head, so that behind each one stand the earlier ones.
 -- Assumes nothing.
 use mathlib.Core.Bool.{Bool, false, not, cond, _&&_, _||_}
