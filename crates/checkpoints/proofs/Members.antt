@@ -13,6 +13,8 @@ use lib.ListN.{length, take}
 use borrow.Author.Tests.{eqb-true, eq-eqb, ne-eqb, leb-true, le-leb}
 use Rattle.lsh.specs.Tabulate.{at}
 use Rattle.lsh.proofs.Tests.{and-true, or-false, is-false}
+use Rattle.elements.proofs.Counting.{IsSameness}
+use Rattle.elements.proofs.Different.{not-longer}
 use Rattle.checkpoints.specs.Members.{member, repeats, allUpTo}
 use Rattle.checkpoints.specs.FreeSlot.{firstFree, freeSlot, FreeChoice}
 
@@ -24,6 +26,9 @@ or-true false = refl
 or-either : (p q : Bool) → p || q ≡ true → (p ≡ true) ⊎ (q ≡ true)
 or-either true q e = inl refl
 or-either false q e = inr e
+
+eqb-sameness : IsSameness eqb
+eqb-sameness = record { self = λ x. eq-eqb x x refl; alike = λ x y z e. ap (λ (k : ℕ). eqb k z) (eqb-true x y e) }
 
 -- a number at the head, and one behind it
 pub member-here : (x : ℕ) (l : List ℕ) → member x (x ∷ l) ≡ true
@@ -105,64 +110,38 @@ pub all-up-to : (k : ℕ) (l : List ℕ) → ((x : ℕ) → member x l ≡ true 
 all-up-to k [] h = refl
 all-up-to k (y ∷ l) h = rw (le-leb y k (h y (member-here y l))) (all-up-to k l (λ x e. h x (member-there x y l e)))
 
--- how many of the numbers 1 to k the list lacks
-abbrev missing : ℕ → List ℕ → ℕ
-missing zero l = 0
-missing (suc k) l = cond (member (suc k) l) (missing k l) (suc (missing k l))
+-- the numbers from k down to 1
+abbrev downFrom : ℕ → List ℕ
+downFrom zero = []
+downFrom (suc k) = suc k ∷ downFrom k
 
-missing-above : (k x : ℕ) (l : List ℕ) → k < x → missing k (x ∷ l) ≡ missing k l
-missing-above zero x l h = refl
-missing-above (suc k) x l h = rw (ne-eqb (suc k) x (λ e. omega arith), missing-above k x l (omega arith))
+length-down : (k : ℕ) → length (downFrom k) ≡ k
+length-down zero = refl
+length-down (suc k) = ap suc (length-down k)
 
--- a number that is put into the list: one less is missing if it is one of the k and was not there, and never more than that
-missing-new : (k x : ℕ) (l : List ℕ) → 0 < x → x ≤ k → member x l ≡ false → missing k l ≡ missing k (x ∷ l) + 1
-missing-new zero x l some le none = absurd (omega arith)
-missing-new (suc k) x l some le none = go (ℕ-discrete (suc k) x) (λ less. missing-new k x l some less none)
+down-member : (k x : ℕ) → 0 < x → x ≤ k → member x (downFrom k) ≡ true
+down-member zero x some le = absurd (omega arith)
+down-member (suc k) x some le = go (ℕ-discrete x (suc k)) (down-member k x some)
   where
-    go : Dec (suc k ≡ x) → (x ≤ k → missing k l ≡ missing k (x ∷ l) + 1) → missing (suc k) l ≡ missing (suc k) (x ∷ l) + 1
-    go (yes e) below =
-        let n : member (suc k) l ≡ false = ap (λ (i : ℕ). member i l) e ∙ none in
-        rw (n, eq-eqb (suc k) x e, missing-above k x l (omega arith)) (omega arith)
-    go (no ne) below = both (member (suc k) l) (below (omega arith))
-      where
-        both : (b : Bool) → missing k l ≡ missing k (x ∷ l) + 1
-            → cond b (missing k l) (suc (missing k l)) ≡ cond (eqb (suc k) x || b) (missing k (x ∷ l)) (suc (missing k (x ∷ l))) + 1
-        both true h = rw (ne-eqb (suc k) x ne) h
-        both false h = rw (ne-eqb (suc k) x ne) (omega arith)
+    go : Dec (x ≡ suc k) → (x ≤ k → member x (downFrom k) ≡ true) → member x (downFrom (suc k)) ≡ true
+    go (yes e) below = rw (eq-eqb x (suc k) e)
+    go (no ne) below = member-there x (suc k) (downFrom k) (below (omega arith))
 
-missing-any : (k x : ℕ) (l : List ℕ) → missing k l ≤ missing k (x ∷ l) + 1
-missing-any zero x l = omega arith
-missing-any (suc k) x l = go (ℕ-discrete (suc k) x) (member (suc k) l) (missing-any k x l)
+member-down : (k x : ℕ) → member x (downFrom k) ≡ true → (0 < x) × (x ≤ k)
+member-down zero x h = absurd (false≢true h)
+member-down (suc k) x h = go (member-cases x (suc k) (downFrom k) h) (member-down k x)
   where
-    go : Dec (suc k ≡ x) → (b : Bool) → missing k l ≤ missing k (x ∷ l) + 1
-        → cond b (missing k l) (suc (missing k l)) ≤ cond (eqb (suc k) x || b) (missing k (x ∷ l)) (suc (missing k (x ∷ l))) + 1
-    go (yes e) true h = rw (eq-eqb (suc k) x e) h
-    go (yes e) false h = rw (eq-eqb (suc k) x e, missing-above k x l (omega arith)) (omega arith)
-    go (no ne) true h = rw (ne-eqb (suc k) x ne) h
-    go (no ne) false h = rw (ne-eqb (suc k) x ne) (omega arith)
+    go : (x ≡ suc k) ⊎ (member x (downFrom k) ≡ true) → (member x (downFrom k) ≡ true → (0 < x) × (x ≤ k)) → (0 < x) × (x ≤ suc k)
+    go (inl e) below = (omega arith, omega arith)
+    go (inr h) below = (below h .0, omega (arith, below h .1))
 
-missing-all : (k : ℕ) → missing k [] ≡ k
-missing-all zero = refl
-missing-all (suc k) = ap suc (missing-all k)
+down-distinct : (k : ℕ) → repeats (downFrom k) ≡ false
+down-distinct zero = refl
+down-distinct (suc k) = rw (is-false (member (suc k) (downFrom k)) (λ h. absurd (omega (arith, member-down k (suc k) h .1)))) (down-distinct k)
 
-missing-most : (k : ℕ) (l : List ℕ) → k ≤ missing k l + length l
-missing-most k [] = omega (arith, missing-all k)
-missing-most k (x ∷ l) = omega (arith, missing-any k x l, missing-most k l)
-
-missing-none : (k : ℕ) (l : List ℕ) → ((i : ℕ) → 0 < i → i ≤ k → member i l ≡ true) → missing k l ≡ 0
-missing-none zero l h = refl
-missing-none (suc k) l h = rw (h (suc k) (omega arith) (omega arith)) (missing-none k l (λ i some le. h i some (omega arith)))
-
--- numbers of 1 to k, none twice
-missing-distinct : (k : ℕ) (l : List ℕ) → repeats l ≡ false → ((x : ℕ) → member x l ≡ true → (0 < x) × (x ≤ k)) → missing k l + length l ≡ k
-missing-distinct k [] e h = omega (arith, missing-all k)
-missing-distinct k (x ∷ l) e h =
-    let p : (member x l ≡ false) × (repeats l ≡ false) = repeats-parts x l e in
-    let one : (0 < x) × (x ≤ k) = h x (member-here x l) in
-    omega (arith, missing-new k x l (one .0) (one .1) (p .0), missing-distinct k l (p .1) (λ y m. h y (member-there y x l m)))
-
+-- a list without repetition that has only numbers of 1 to k is not longer than k
 pub distinct-few : (k : ℕ) (l : List ℕ) → repeats l ≡ false → ((x : ℕ) → member x l ≡ true → (0 < x) × (x ≤ k)) → length l ≤ k
-distinct-few k l e h = omega (arith, missing-distinct k l e h)
+distinct-few k l e h = omega (arith, length-down k, not-longer eqb-sameness (downFrom k) l e (λ x m. down-member k x (h x m .0) (h x m .1)))
 
 -- the first of n numbers that is not in the list, if there is one
 first-free : (i n : ℕ) (l : List ℕ)
@@ -188,5 +167,5 @@ unfolding FreeChoice freeSlot
 free-choice k l few =
     ⊎-elim
     (λ h. record { some = h .0; within = omega arith; free = h .2 })
-    (λ h. absurd (omega (arith, missing-most k l, missing-none k l (λ i some le. h i some (omega arith)))))
+    (λ h. absurd (omega (arith, length-down k, not-longer eqb-sameness l (downFrom k) (down-distinct k) (λ x m. h x (member-down k x m .0) (omega (arith, member-down k x m .1))))))
     (first-free 1 k l)

@@ -1,19 +1,18 @@
 -- Numbers in a list.
 -- Assumes nothing.
-use mathlib.Core.Bool.{Bool, true, false, _&&_, _||_}
+use mathlib.Core.Bool.{Bool, true, _&&_}
 use mathlib.Core.List.{List, [], _∷_}
 use Prim.Native.Nat.{ℕ}
 use lib.Dec.{eqb, leb}
+use Rattle.elements.specs.Elements.{isOneOf, hasRepeats}
 
 -- x stands in the list
 abbrev pub member : ℕ → List ℕ → Bool
-member x [] = false
-member x (y ∷ l) = eqb x y || member x l
+member x l = isOneOf eqb x l
 
 -- some number stands in it twice
 abbrev pub repeats : List ℕ → Bool
-repeats [] = false
-repeats (x ∷ l) = member x l || repeats l
+repeats l = hasRepeats eqb l
 
 -- no number of it is above k
 abbrev pub allUpTo : ℕ → List ℕ → Bool

@@ -1,0 +1,141 @@
+-- How often each element stands in a list decides how many elements pass a test that does not tell the same ones apart.
+-- Assumes nothing.
+use mathlib.Core.Path.{_≡_, refl, sym, ap, _∙_}
+use mathlib.Core.Bool.{Bool, true, false, cond, _||_, false≢true}
+use mathlib.Core.List.{List, [], _∷_}
+use Prim.Native.Nat.{ℕ, _+_, _≤_, _<_}
+use native.Mathlib.Omega.{arith}
+use lib.ListN.{length}
+use Rattle.lsh.proofs.Tests.{or-false}
+use Rattle.elements.specs.Elements.{isOneOf, hasRepeats, howMany, howOften}
+use Rattle.elements.specs.Choice.{EachAsOften}
+
+-- a count with one element more, which is counted or not
+abbrev pub more : Bool → ℕ → ℕ
+more is k = cond is (k + 1) k
+
+more-swap : (a b : Bool) (k : ℕ) → more a (more b k) ≡ more b (more a k)
+more-swap true true k = refl
+more-swap true false k = refl
+more-swap false b k = refl
+
+more-cancel : (a : Bool) (j k : ℕ) → more a j ≡ more a k → j ≡ k
+more-cancel true j k e = omega arith
+more-cancel false j k e = e
+
+pub le-more : (a : Bool) (k : ℕ) → k ≤ more a k
+le-more true k = omega arith
+le-more false k = omega arith
+
+pub more-monotone : (a : Bool) (j k : ℕ) → j ≤ k → more a j ≤ more a k
+more-monotone true j k le = omega arith
+more-monotone false j k le = le
+
+-- how many elements pass a test of the element alone
+abbrev pub count : {A : Type 0} → (A → Bool) → List A → ℕ
+count p l = howMany (λ x behind. p x) l
+
+pub count-all : {A : Type 0} (l : List A) → count (λ x. true) l ≡ length l
+count-all [] = refl
+count-all (x ∷ l) = omega (arith, count-all l)
+
+-- what is one of a list stands in it, and what is none of it does not
+module _ {A : Type 0} (same : A → A → Bool) (x : A) where
+  pub one-often : (l : List A) → isOneOf same x l ≡ true → 0 < howOften same x l
+  one-often [] e = absurd (false≢true e)
+  one-often (y ∷ l) e = go (same x y) e (one-often l)
+    where
+      go : (b : Bool) → b || isOneOf same x l ≡ true → (isOneOf same x l ≡ true → 0 < howOften same x l) → 0 < more b (howOften same x l)
+      go true e behind = omega arith
+      go false e behind = behind e
+
+  pub none-often : (l : List A) → isOneOf same x l ≡ false → howOften same x l ≡ 0
+  none-often [] e = refl
+  none-often (y ∷ l) e = go (same x y) e (none-often l)
+    where
+      go : (b : Bool) → b || isOneOf same x l ≡ false → (isOneOf same x l ≡ false → howOften same x l ≡ 0) → more b (howOften same x l) ≡ 0
+      go true e behind = absurd (false≢true (sym e))
+      go false e behind = behind e
+
+  pub often-one : (l : List A) → 0 < howOften same x l → isOneOf same x l ≡ true
+  often-one l some = go (isOneOf same x l) refl
+    where
+      go : (b : Bool) → isOneOf same x l ≡ b → b ≡ true
+      go true e = refl
+      go false e = absurd (omega (arith, none-often l e))
+
+-- the list without the first one that is the same as x
+abbrev pub without : {A : Type 0} → (A → A → Bool) → A → List A → List A
+without same x [] = []
+without same x (y ∷ l) = cond (same x y) l (y ∷ without same x l)
+
+-- what a test for sameness has to satisfy: an element is the same as itself, and two that are the same are the same as the same ones
+pub record IsSameness {A : Type 0} (same : A → A → Bool) : Type 0 where
+  pub self : (x : A) → same x x ≡ true
+  pub alike : (x y z : A) → same x y ≡ true → same x z ≡ same y z
+
+-- a test that does not tell the same elements apart
+abbrev pub Respects : {A : Type 0} → (A → A → Bool) → (A → Bool) → Type 0
+Respects {A} same p = (x y : A) → same x y ≡ true → p x ≡ p y
+
+module _ {A : Type 0} {same : A → A → Bool} (ok : IsSameness same) where
+  same-respects : (z : A) → Respects same (same z)
+  same-respects z x y e = go (same z x) (same z y) refl refl
+    where
+      go : (a b : Bool) → same z x ≡ a → same z y ≡ b → a ≡ b
+      go true true ea eb = refl
+      go false false ea eb = refl
+      go true false ea eb = absurd (false≢true (sym eb ∙ ok .alike z x y ea ∙ e))
+      go false true ea eb = absurd (false≢true (sym ea ∙ ok .alike z y x eb ∙ sym (ok .alike x y x e) ∙ ok .self x))
+
+  pub often-alike : (x y : A) → same x y ≡ true → (l : List A) → howOften same x l ≡ howOften same y l
+  often-alike x y e [] = refl
+  often-alike x y e (z ∷ l) = rw (ok .alike x y z e, often-alike x y e l)
+
+  pub head-often : (x : A) (l : List A) → 0 < howOften same x (x ∷ l)
+  head-often x l = rw (ok .self x) (omega arith)
+
+  -- no element stands more than once in a list without repetition
+  pub no-repeats : (l : List A) → hasRepeats same l ≡ false → (x : A) → howOften same x l ≤ 1
+  no-repeats [] e x = omega arith
+  no-repeats (y ∷ l) e x =
+      let p : (isOneOf same y l ≡ false) × (hasRepeats same l ≡ false) = or-false (isOneOf same y l) (hasRepeats same l) e in
+      go (same x y) refl (p .0) (no-repeats l (p .1) x)
+    where
+      go : (b : Bool) → same x y ≡ b → isOneOf same y l ≡ false → howOften same x l ≤ 1 → more b (howOften same x l) ≤ 1
+      go true e none rest = omega (arith, often-alike x y e l, none-often same y l none)
+      go false e none rest = rest
+
+  pub removed : (p : A → Bool) → Respects same p → (x : A) (l : List A) → 0 < howOften same x l → count p l ≡ more (p x) (count p (without same x l))
+  removed p respects x [] some = absurd (omega arith)
+  removed p respects x (y ∷ l) some = go (same x y) refl some (removed p respects x l)
+    where
+      go : (b : Bool) → same x y ≡ b → 0 < more b (howOften same x l) → (0 < howOften same x l → count p l ≡ more (p x) (count p (without same x l)))
+          → more (p y) (count p l) ≡ more (p x) (count p (cond b l (y ∷ without same x l)))
+      go true e some behind = ap (λ (is : Bool). more is (count p l)) (sym (respects x y e))
+      go false e some behind = ap (more (p y)) (behind some) ∙ more-swap (p y) (p x) (count p (without same x l))
+
+  pub often-removed : (z x : A) (l : List A) → 0 < howOften same x l → howOften same z l ≡ more (same z x) (howOften same z (without same x l))
+  often-removed z = removed (same z) (same-respects z)
+
+  pub length-removed : (x : A) (l : List A) → 0 < howOften same x l → length l ≡ length (without same x l) + 1
+  length-removed x l some = sym (count-all l) ∙ removed (λ x. true) (λ x y e. refl) x l some ∙ ap (λ (k : ℕ). k + 1) (count-all (without same x l))
+
+  module _ (p : A → Bool) (respects : Respects same p) where
+    -- where none passes, no element of the list does
+    pub none-passes : (l : List A) → count p l ≡ 0 → (x : A) → 0 < howOften same x l → p x ≡ false
+    none-passes l none x some = go (p x) (removed p respects x l some)
+      where
+        go : (b : Bool) → count p l ≡ more b (count p (without same x l)) → b ≡ false
+        go true e = absurd (omega arith)
+        go false e = refl
+
+    -- lists with the same elements, each as often
+    pub as-many : (l m : List A) → EachAsOften same l m → count p l ≡ count p m
+    as-many [] [] each = refl
+    as-many [] (y ∷ m) each = absurd (omega (arith, each y, head-often y m))
+    as-many (x ∷ l) m each =
+        let some : 0 < howOften same x m = omega (arith, each x, head-often x l) in
+        let rest : EachAsOften same l (without same x m) =
+        λ z. more-cancel (same z x) (howOften same z l) (howOften same z (without same x m)) (each z ∙ often-removed z x m some) in
+        ap (more (p x)) (as-many l (without same x m) rest) ∙ sym (removed p respects x m some)
