@@ -1,5 +1,5 @@
--- Numbers in a list, and how many of the numbers 1 to k it lacks: a list without repetition that has only such numbers is not longer than k, and a list
--- shorter than k lacks one, which the free choice finds.
+-- Numbers in a list: one without repetition that has only numbers of 1 to k is not longer than k, and one shorter than k lacks one of them, which the
+-- free choice finds.
 -- Assumes nothing.
 use mathlib.Core.Path.{_≡_, refl, sym, ap, _∙_}
 use mathlib.Core.Bool.{Bool, true, false, cond, _||_, false≢true}
@@ -13,37 +13,21 @@ use lib.ListN.{length, take}
 use borrow.Author.Tests.{eqb-true, eq-eqb, ne-eqb, leb-true, le-leb}
 use Rattle.lsh.specs.Tabulate.{at}
 use Rattle.lsh.proofs.Tests.{and-true, or-false, is-false}
-use Rattle.elements.proofs.Counting.{IsSameness}
+use Rattle.elements.proofs.Counting.{IsEquivalence}
+use Rattle.elements.proofs.Repeats.{one-there, one-cases, repeats-there}
 use Rattle.elements.proofs.Different.{not-longer}
 use Rattle.checkpoints.specs.Members.{member, repeats, allUpTo}
 use Rattle.checkpoints.specs.FreeSlot.{firstFree, freeSlot, FreeChoice}
 
--- a test of either of two
-or-true : (p : Bool) → p || true ≡ true
-or-true true = refl
-or-true false = refl
-
-or-either : (p q : Bool) → p || q ≡ true → (p ≡ true) ⊎ (q ≡ true)
-or-either true q e = inl refl
-or-either false q e = inr e
-
-eqb-sameness : IsSameness eqb
-eqb-sameness = record { self = λ x. eq-eqb x x refl; alike = λ x y z e. ap (λ (k : ℕ). eqb k z) (eqb-true x y e) }
+pub eqb-equivalence : IsEquivalence eqb
+eqb-equivalence = record { self = λ x. eq-eqb x x refl; alike = λ x y z e. ap (λ (k : ℕ). eqb k z) (eqb-true x y e) }
 
 -- a number at the head, and one behind it
 pub member-here : (x : ℕ) (l : List ℕ) → member x (x ∷ l) ≡ true
 member-here x l = rw (eq-eqb x x refl)
 
-pub member-there : (x y : ℕ) (l : List ℕ) → member x l ≡ true → member x (y ∷ l) ≡ true
-member-there x y l e = rw e (or-true (eqb x y))
-
 pub member-cases : (x y : ℕ) (l : List ℕ) → member x (y ∷ l) ≡ true → (x ≡ y) ⊎ (member x l ≡ true)
-member-cases x y l e = ⊎-elim (λ h. inl (eqb-true x y h)) (λ h. inr h) (or-either (eqb x y) (member x l) e)
-
-pub not-member : (x y : ℕ) (l : List ℕ) → member x (y ∷ l) ≡ false → (x ≡ y → ⊥) × (member x l ≡ false)
-not-member x y l e =
-    let p : (eqb x y ≡ false) × (member x l ≡ false) = or-false (eqb x y) (member x l) e in
-    (λ same. false≢true (sym (p .0) ∙ eq-eqb x y same), p .1)
+member-cases x y l e = ⊎-elim (λ h. inl (eqb-true x y h)) (λ h. inr h) (one-cases eqb x y l e)
 
 -- two numbers of which one stands in the list and the other does not
 pub apart : (x y : ℕ) (l : List ℕ) → member x l ≡ true → member y l ≡ false → x ≡ y → ⊥
@@ -52,42 +36,7 @@ apart x y l h k e = false≢true (sym k ∙ ap (λ (n : ℕ). member n l) (sym e
 pub member-at : (l : List ℕ) (m : ℕ) → m < length l → member (at l m) l ≡ true
 member-at [] m h = absurd (omega arith)
 member-at (x ∷ l) zero h = member-here x l
-member-at (x ∷ l) (suc m) h = member-there (at l m) x l (member-at l m (omega arith))
-
-pub member-take : (x m : ℕ) (l : List ℕ) → member x (take m l) ≡ true → member x l ≡ true
-member-take x zero l e = absurd (false≢true e)
-member-take x (suc m) [] e = e
-member-take x (suc m) (y ∷ l) e =
-    ⊎-elim (λ h. rw (eq-eqb x y h)) (λ h. member-there x y l (member-take x m l h)) (member-cases x y (take m l) e)
-
-pub member-snoc : (x y : ℕ) (l : List ℕ) → member x (l ++ y ∷ []) ≡ (eqb x y || member x l)
-member-snoc x y [] = refl
-member-snoc x y (z ∷ l) = rw (member-snoc x y l) (swap (eqb x z) (eqb x y) (member x l))
-  where
-    swap : (a b c : Bool) → a || (b || c) ≡ b || (a || c)
-    swap true true c = refl
-    swap true false c = refl
-    swap false b c = refl
-
--- what has no number twice has none twice in its first part, and with one more that it lacks
-pub repeats-parts : (x : ℕ) (l : List ℕ) → repeats (x ∷ l) ≡ false → (member x l ≡ false) × (repeats l ≡ false)
-repeats-parts x l e = or-false (member x l) (repeats l) e
-
-member-take-false : (x m : ℕ) (l : List ℕ) → member x l ≡ false → member x (take m l) ≡ false
-member-take-false x m l e = is-false (member x (take m l)) (λ h. false≢true (sym e ∙ member-take x m l h))
-
-pub repeats-take : (m : ℕ) (l : List ℕ) → repeats l ≡ false → repeats (take m l) ≡ false
-repeats-take zero l e = refl
-repeats-take (suc m) [] e = refl
-repeats-take (suc m) (x ∷ l) e =
-    rw (member-take-false x m l (repeats-parts x l e .0)) (repeats-take m l (repeats-parts x l e .1))
-
-pub repeats-snoc : (y : ℕ) (l : List ℕ) → repeats l ≡ false → member y l ≡ false → repeats (l ++ y ∷ []) ≡ false
-repeats-snoc y [] e h = refl
-repeats-snoc y (x ∷ l) e h =
-    let p : (member x l ≡ false) × (repeats l ≡ false) = repeats-parts x l e in
-    let q : (y ≡ x → ⊥) × (member y l ≡ false) = not-member y x l h in
-    rw (member-snoc x y l, ne-eqb x y (λ s. q .0 (sym s)), p .0) (repeats-snoc y l (p .1) (q .1))
+member-at (x ∷ l) (suc m) h = one-there eqb (at l m) x l (member-at l m (omega arith))
 
 -- a number met again shows in any longer part
 pub repeats-again : (m : ℕ) (l : List ℕ) → m < length l → member (at l m) (take m l) ≡ true → repeats l ≡ true
@@ -96,7 +45,7 @@ repeats-again zero (x ∷ l) h e = absurd (false≢true e)
 repeats-again (suc m) (x ∷ l) h e =
     ⊎-elim
     (λ same. let back : member x l ≡ true = ap (λ (n : ℕ). member n l) (sym same) ∙ member-at l m (omega arith) in rw back)
-    (λ later. rw (repeats-again m l (omega arith) later) (or-true (member x l)))
+    (λ later. repeats-there eqb x l (repeats-again m l (omega arith) later))
     (member-cases (at l m) x (take m l) e)
 
 -- the test of a bound, for each number
@@ -108,7 +57,7 @@ each-up-to k (y ∷ l) e x h =
 
 pub all-up-to : (k : ℕ) (l : List ℕ) → ((x : ℕ) → member x l ≡ true → x ≤ k) → allUpTo k l ≡ true
 all-up-to k [] h = refl
-all-up-to k (y ∷ l) h = rw (le-leb y k (h y (member-here y l))) (all-up-to k l (λ x e. h x (member-there x y l e)))
+all-up-to k (y ∷ l) h = rw (le-leb y k (h y (member-here y l))) (all-up-to k l (λ x e. h x (one-there eqb x y l e)))
 
 -- the numbers from k down to 1
 abbrev downFrom : ℕ → List ℕ
@@ -125,7 +74,7 @@ down-member (suc k) x some le = go (ℕ-discrete x (suc k)) (down-member k x som
   where
     go : Dec (x ≡ suc k) → (x ≤ k → member x (downFrom k) ≡ true) → member x (downFrom (suc k)) ≡ true
     go (yes e) below = rw (eq-eqb x (suc k) e)
-    go (no ne) below = member-there x (suc k) (downFrom k) (below (omega arith))
+    go (no ne) below = one-there eqb x (suc k) (downFrom k) (below (omega arith))
 
 member-down : (k x : ℕ) → member x (downFrom k) ≡ true → (0 < x) × (x ≤ k)
 member-down zero x h = absurd (false≢true h)
@@ -141,7 +90,7 @@ down-distinct (suc k) = rw (is-false (member (suc k) (downFrom k)) (λ h. absurd
 
 -- a list without repetition that has only numbers of 1 to k is not longer than k
 pub distinct-few : (k : ℕ) (l : List ℕ) → repeats l ≡ false → ((x : ℕ) → member x l ≡ true → (0 < x) × (x ≤ k)) → length l ≤ k
-distinct-few k l e h = omega (arith, length-down k, not-longer eqb-sameness (downFrom k) l e (λ x m. down-member k x (h x m .0) (h x m .1)))
+distinct-few k l e h = omega (arith, length-down k, not-longer eqb-equivalence (downFrom k) l e (λ x m. down-member k x (h x m .0) (h x m .1)))
 
 -- the first of n numbers that is not in the list, if there is one
 first-free : (i n : ℕ) (l : List ℕ)
@@ -167,5 +116,5 @@ unfolding FreeChoice freeSlot
 free-choice k l few =
     ⊎-elim
     (λ h. record { some = h .0; within = omega arith; free = h .2 })
-    (λ h. absurd (omega (arith, length-down k, not-longer eqb-sameness l (downFrom k) (down-distinct k) (λ x m. h x (member-down k x m .0) (omega (arith, member-down k x m .1))))))
+    (λ h. absurd (omega (arith, length-down k, not-longer eqb-equivalence l (downFrom k) (down-distinct k) (λ x m. h x (member-down k x m .0) (omega (arith, member-down k x m .1))))))
     (first-free 1 k l)

@@ -16,12 +16,13 @@ use Rattle.lsh.specs.WordSize.{WordSize}
 use Rattle.lsh.specs.Block.{Chain}
 use Rattle.lsh.proofs.Tests.{or-false, is-false}
 use Rattle.lsh.proofs.Bytes.{Octets}
+use Rattle.elements.proofs.Repeats.{one-there, one-take, one-snoc, repeats-take, repeats-snoc}
 use Rattle.checkpoints.specs.Slots.{slotCount, isRollLength, slotAt}
 use Rattle.checkpoints.specs.Members.{member, repeats}
 use Rattle.checkpoints.specs.Roll.{nextIndex, links, chainIn, shown, isRoll}
 use Rattle.checkpoints.specs.FreeSlot.{Unlinked, FreeChoice}
 use Rattle.checkpoints.specs.Checkpoints.{withIndex, withSlot, leadTo, taken, laid, laidAfter, unlinked}
-use Rattle.checkpoints.proofs.Members.{apart, member-here, member-there, member-cases, member-at, member-take, member-snoc, repeats-take, repeats-snoc, free-choice}
+use Rattle.checkpoints.proofs.Members.{eqb-equivalence, apart, member-here, member-cases, member-at, free-choice}
 use Rattle.checkpoints.proofs.Ways.{Leads, relinked}
 use Rattle.checkpoints.proofs.Writes.{index-size, next-is, next-other, chain-kept, slot-size, slot-next, slot-next-other, slot-chain, slot-chain-other, slot-kept, slot-kept-other}
 use Rattle.checkpoints.proofs.Form.{Sized, sized, Linked, linked, links-are, is-roll}
@@ -30,7 +31,7 @@ use Rattle.checkpoints.proofs.Form.{Sized, sized, Linked, linked, links
 map-same : (f g : ℕ → List ℕ) (l : List ℕ) → ((x : ℕ) → member x l ≡ true → f x ≡ g x) → map f l ≡ map g l
 map-same f g [] h = refl
 map-same f g (x ∷ l) h =
-    ap₂ (λ (y : List ℕ) (ys : List (List ℕ)). y ∷ ys) (h x (member-here x l)) (map-same f g l (λ y e. h y (member-there y x l e)))
+    ap₂ (λ (y : List ℕ) (ys : List (List ℕ)). y ∷ ys) (h x (member-here x l)) (map-same f g l (λ y e. h y (one-there eqb y x l e)))
 
 map-snoc : (f : ℕ → List ℕ) (l : List ℕ) (x : ℕ) → map f (l ++ x ∷ []) ≡ map f l ++ f x ∷ []
 map-snoc f [] x = refl
@@ -142,13 +143,13 @@ module _ (z : WordSize) (ok : Octets z) (s : List ℕ) (is : isRoll z s ≡ true
         (refl, (λ e. let p : 0 < i = free .some in absurd (omega arith)), next-taken))
 
     laid-distinct : repeats (L ++ i ∷ []) ≡ false
-    laid-distinct = repeats-snoc i L (have .distinct) (free .free)
+    laid-distinct = repeats-snoc eqb eqb-equivalence i L (have .distinct) (free .free)
 
     laid-within : (x : ℕ) → member x (L ++ i ∷ []) ≡ true → (0 < x) × (x ≤ slotCount z (length U))
     laid-within x h =
         rw laid-length
         (⊎-elim (λ e. subst (λ (n : ℕ). (0 < n) × (n ≤ k)) (sym e) (free .some, free .within)) (have .within x)
-        (member-cases x i L (sym (member-snoc x i L) ∙ h)))
+        (member-cases x i L (sym (one-snoc eqb x i L) ∙ h)))
 
     laid-right : isRollLength z (length U) ≡ true
     laid-right = ap (isRollLength z) laid-length ∙ have .right
@@ -184,7 +185,7 @@ module _ (z : WordSize) (ok : Octets z) (s : List ℕ) (is : isRoll z s ≡ true
     pub laid-untaken : (j : ℕ) → 0 < j → member j (links z (laid z t s)) ≡ false → slotAt z (laid z t s) j ≡ slotAt z s j
     laid-untaken j some unlinked-after =
         let p : (eqb j i ≡ false) × (member j L ≡ false) =
-        or-false (eqb j i) (member j L) (sym (ap (member j) laid-links ∙ member-snoc j i L) ∙ unlinked-after) in
+        or-false (eqb j i) (member j L) (sym (ap (member j) laid-links ∙ one-snoc eqb j i L) ∙ unlinked-after) in
         let other : j ≡ i → ⊥ = eqb-false j i (p .0) in
         let not-last : j ≡ last → ⊥ =
         λ e. ⊎-elim (λ zero-is. omega arith) (λ m. apart last j L m (p .1) (sym e)) (member-cases last 0 L (lead-member (length L) (le-refl (length L)))) in
@@ -218,20 +219,20 @@ module _ (z : WordSize) (ok : Octets z) (s : List ℕ) (is : isRoll z s ≡ true
       cut-right = ap (isRollLength z) cut-length ∙ have .right
 
       cut-within : (x : ℕ) → member x (take m L) ≡ true → (0 < x) × (x ≤ slotCount z (length C))
-      cut-within x h = rw cut-length (have .within x (member-take x m L h))
+      cut-within x h = rw cut-length (have .within x (one-take eqb x m L h))
 
       cut-links : links z C ≡ take m L
-      cut-links = links-are z C (take m L) cut-right cut-way (repeats-take m L (have .distinct)) cut-within
+      cut-links = links-are z C (take m L) cut-right cut-way (repeats-take eqb m L (have .distinct)) cut-within
 
       cut-roll : isRoll z C ≡ true
-      cut-roll = is-roll z C (take m L) cut-right cut-way (repeats-take m L (have .distinct)) cut-within
+      cut-roll = is-roll z C (take m L) cut-right cut-way (repeats-take eqb m L (have .distinct)) cut-within
 
       cut-shown : shown z C ≡ take m (shown z s)
       unfolding shown
       cut-shown =
           ap (map (chainIn z C)) cut-links
           ∙ map-same (chainIn z C) (chainIn z s) (take m L)
-          (λ x h. chain-kept z ok k s (sizes .size) at-m m-within 0 x (have .within x (member-take x m L h) .0))
+          (λ x h. chain-kept z ok k s (sizes .size) at-m m-within 0 x (have .within x (one-take eqb x m L h) .0))
           ∙ map-take (chainIn z s) m L
 
     -- a roll of the same length, that shows the first m chains
@@ -295,6 +296,6 @@ module _ (z : WordSize) (ok : Octets z) (f : ℕ → List ℕ) (C : ℕ → List
         untaken = λ j some free.
             let r = rest .untaken j some free in
             let p = or-false (eqb j (taken z s)) (member j (links z s))
-            (sym (ap (member j) (laid-links z ok s is left t (chains (suc m))) ∙ member-snoc j (taken z s) (links z s)) ∙ r .0) in
+            (sym (ap (member j) (laid-links z ok s is left t (chains (suc m))) ∙ one-snoc eqb j (taken z s) (links z s)) ∙ r .0) in
             (p .1, r .1 ∙ laid-untaken z ok s is left t (chains (suc m)) j some (r .0));
       }

@@ -7,12 +7,14 @@ use mathlib.Core.List.{List, [], _∷_, _++_}
 use Prim.Native.Nat.{ℕ, zero, suc, _≤_, _<_}
 use native.Mathlib.Decide.{ℕ-discrete}
 use native.Mathlib.Omega.{arith}
+use lib.Dec.{eqb}
 use lib.ListN.{length, take}
 use borrow.Author.Tests.{eq-eqb, ne-eqb}
 use Rattle.lsh.specs.Tabulate.{at}
+use Rattle.elements.proofs.Repeats.{one-there, repeats-parts}
 use Rattle.checkpoints.specs.Members.{member, repeats}
 use Rattle.checkpoints.specs.Roll.{met}
-use Rattle.checkpoints.proofs.Members.{member-here, member-there, member-cases, member-at, repeats-parts, apart}
+use Rattle.checkpoints.proofs.Members.{member-here, member-cases, member-at, apart}
 
 -- from index i the slots l are met, and then the way ends
 abbrev pub Leads : (ℕ → ℕ) → ℕ → List ℕ → Type 0
@@ -84,12 +86,12 @@ pub relinked : (next other : ℕ → ℕ) (l : List ℕ) (m p j : ℕ) (after : 
 relinked next other l zero p j after way distinct le same changed rest = subst (λ (i : ℕ). Leads other i after) (sym changed) rest
 relinked next other [] (suc m) p j after way distinct le same changed rest = absurd (omega arith)
 relinked next other (x ∷ l) (suc m) p j after way distinct le same changed rest =
-    let parts : (member p (x ∷ l) ≡ false) × (repeats (x ∷ l) ≡ false) = repeats-parts p (x ∷ l) distinct in
+    let parts : (member p (x ∷ l) ≡ false) × (repeats (x ∷ l) ≡ false) = repeats-parts eqb p (x ∷ l) distinct in
     let unlike : p ≡ at (x ∷ l) m → ⊥ = λ e. apart (at (x ∷ l) m) p (x ∷ l) (member-at (x ∷ l) m (omega arith)) (parts .0) (sym e) in
     let here : other p ≡ x = same p (member-here p (x ∷ l)) unlike ∙ sym (way .0) in
     let on : Leads next (next x) l = subst (λ (i : ℕ). Leads next (next i) l) (sym (way .0)) (way .2) in (
       sym here,
       λ none. way .1 (sym (way .0) ∙ sym here ∙ none),
       subst (λ (i : ℕ). Leads other (other i) (take m l ++ after)) (sym here)
-          (relinked next other l m x j after on (parts .1) (omega arith) (λ q h. same q (member-there q p (x ∷ l) h)) changed rest),
+          (relinked next other l m x j after on (parts .1) (omega arith) (λ q h. same q (one-there eqb q p (x ∷ l) h)) changed rest),
     )

@@ -70,7 +70,7 @@ without same x [] = []
 without same x (y ∷ l) = cond (same x y) l (y ∷ without same x l)
 
 -- what a test for sameness has to satisfy: an element is the same as itself, and two that are the same are the same as the same ones
-pub record IsSameness {A : Type 0} (same : A → A → Bool) : Type 0 where
+pub record IsEquivalence {A : Type 0} (same : A → A → Bool) : Type 0 where
   pub self : (x : A) → same x x ≡ true
   pub alike : (x y z : A) → same x y ≡ true → same x z ≡ same y z
 
@@ -78,15 +78,18 @@ pub record IsSameness {A : Type 0} (same : A → A → Bool) : Type 0 where
 abbrev pub Respects : {A : Type 0} → (A → A → Bool) → (A → Bool) → Type 0
 Respects {A} same p = (x y : A) → same x y ≡ true → p x ≡ p y
 
-module _ {A : Type 0} {same : A → A → Bool} (ok : IsSameness same) where
-  same-respects : (z : A) → Respects same (same z)
-  same-respects z x y e = go (same z x) (same z y) refl refl
+module _ {A : Type 0} {same : A → A → Bool} (ok : IsEquivalence same) where
+  pub same-swap : (x y : A) → same x y ≡ same y x
+  same-swap x y = go (same x y) (same y x) refl refl
     where
-      go : (a b : Bool) → same z x ≡ a → same z y ≡ b → a ≡ b
+      go : (a b : Bool) → same x y ≡ a → same y x ≡ b → a ≡ b
       go true true ea eb = refl
       go false false ea eb = refl
-      go true false ea eb = absurd (false≢true (sym eb ∙ ok .alike z x y ea ∙ e))
-      go false true ea eb = absurd (false≢true (sym ea ∙ ok .alike z y x eb ∙ sym (ok .alike x y x e) ∙ ok .self x))
+      go true false ea eb = absurd (false≢true (sym eb ∙ sym (ok .alike x y x ea) ∙ ok .self x))
+      go false true ea eb = absurd (false≢true (sym ea ∙ sym (ok .alike y x y eb) ∙ ok .self y))
+
+  same-respects : (z : A) → Respects same (same z)
+  same-respects z x y e = same-swap z x ∙ ok .alike x y z e ∙ same-swap y z
 
   pub often-alike : (x y : A) → same x y ≡ true → (l : List A) → howOften same x l ≡ howOften same y l
   often-alike x y e [] = refl
@@ -139,3 +142,6 @@ module _ {A : Type 0} {same : A → A → Bool} (ok : IsSameness same) where
         let rest : EachAsOften same l (without same x m) =
         λ z. more-cancel (same z x) (howOften same z l) (howOften same z (without same x m)) (each z ∙ often-removed z x m some) in
         ap (more (p x)) (as-many l (without same x m) rest) ∙ sym (removed p respects x m some)
+
+  pub as-long : (l m : List A) → EachAsOften same l m → length l ≡ length m
+  as-long l m each = sym (count-all l) ∙ as-many (λ x. true) (λ x y e. refl) l m each ∙ count-all m

@@ -10,7 +10,7 @@ use lib.ListN.{length}
 use Rattle.lsh.proofs.Tests.{and-true}
 use Rattle.elements.specs.Elements.{isOneOf, hasRepeats, howMany, howOften}
 use Rattle.elements.specs.Choice.{EachAsOften, IsChoice}
-use Rattle.elements.proofs.Counting.{more, le-more, more-monotone, count, one-often, none-often, often-one, without, IsSameness, Respects, often-alike, head-often, no-repeats, removed, often-removed, length-removed, none-passes}
+use Rattle.elements.proofs.Counting.{more, le-more, more-monotone, count, one-often, none-often, often-one, without, IsEquivalence, Respects, often-alike, head-often, no-repeats, removed, often-removed, length-removed, none-passes}
 
 -- the elements that pass a test of the element and of those behind it
 abbrev pub those : {A : Type 0} → (A → List A → Bool) → List A → List A
@@ -18,7 +18,7 @@ those test [] = []
 those test (x ∷ l) = cond (test x l) (x ∷ those test l) (those test l)
 
 module _ {A : Type 0} (test : A → List A → Bool) where
-  length-those : (l : List A) → length (those test l) ≡ howMany test l
+  pub length-those : (l : List A) → length (those test l) ≡ howMany test l
   length-those [] = refl
   length-those (x ∷ l) = go (test x l) (length-those l)
     where
@@ -35,7 +35,7 @@ module _ {A : Type 0} (test : A → List A → Bool) where
       go true le = more-monotone (p x) (count p (those test l)) (count p l) le
       go false le = omega (arith, le-more (p x) (count p l))
 
-module _ {A : Type 0} {same : A → A → Bool} (ok : IsSameness same) (aside : A → Bool) (respects : Respects same aside) where
+module _ {A : Type 0} {same : A → A → Bool} (ok : IsEquivalence same) (aside : A → Bool) (respects : Respects same aside) where
   -- a new element is not set aside, and no element behind it is the same
   abbrev new : A → List A → Bool
   new x behind = not (aside x) && not (isOneOf same x behind)
@@ -118,7 +118,7 @@ module _ {A : Type 0} {same : A → A → Bool} (ok : IsSameness same) (aside : 
           omega (arith, length-those new l, most m (those new l) also)
 
 -- a list without repetition whose elements all stand in another list is not longer than that
-pub not-longer : {A : Type 0} {same : A → A → Bool} → IsSameness same → (l c : List A) → hasRepeats same c ≡ false
+pub not-longer : {A : Type 0} {same : A → A → Bool} → IsEquivalence same → (l c : List A) → hasRepeats same c ≡ false
     → ((x : A) → isOneOf same x c ≡ true → isOneOf same x l ≡ true) → length c ≤ length l
 not-longer {A} {same} ok l c distinct within =
     let choice : IsChoice same (λ x. false) l c =

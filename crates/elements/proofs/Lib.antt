@@ -1,3 +1,4 @@
 -- Laws of the elements of a list.
 pub mod Counting
+pub mod Repeats
 pub mod Different

@@ -17,13 +17,14 @@ use Rattle.lsh.specs.WordSize.{WordSize}
 use Rattle.lsh.specs.Block.{Chain}
 use Rattle.lsh.proofs.Bytes.{Octets}
 use Rattle.lsh.proofs.Tabulate.{length-tabulate, at-tabulate, tabulate-ext}
+use Rattle.elements.proofs.Repeats.{one-take, one-snoc, repeats-snoc}
 use Rattle.roll.specs.declared.Way.{Way}
 use Rattle.checkpoints.specs.Slots.{mostSlots, slotCount, isRollLength}
 use Rattle.checkpoints.specs.Members.{member, repeats, allUpTo}
 use Rattle.checkpoints.specs.Roll.{nextIndex, links, isRoll}
 use Rattle.checkpoints.specs.Checkpoints.{leadTo, taken, laid}
 use Rattle.roll.specs.Way.{marked, notARoll, wayOf}
-use Rattle.checkpoints.proofs.Members.{member-at, member-take, member-cases, member-snoc, repeats-snoc, repeats-again, distinct-few, all-up-to}
+use Rattle.checkpoints.proofs.Members.{eqb-equivalence, member-at, member-cases, repeats-again, distinct-few, all-up-to}
 use Rattle.checkpoints.proofs.Ways.{met-first, met-next}
 use Rattle.checkpoints.proofs.Form.{sized, Linked, linked, links-some}
 use Rattle.checkpoints.proofs.Shown.{taken-within, laid-size, laid-links, laid-roll}
@@ -63,7 +64,7 @@ module _ (l : List ℕ) where
   unfolding marked
   marked-more i le =
       sym (tabulate-ext (mostSlots + 1) (λ j. cond (member j (l ++ i ∷ [])) 1 0) (set (marked l) i 1)
-      (length-set (marked l) i 1 ∙ marked-length) (λ j lt. ap (λ (b : Bool). cond {A = ℕ} b 1 0) (member-snoc j i l) ∙ go j (omega arith) (ℕ-discrete j i)))
+      (length-set (marked l) i 1 ∙ marked-length) (λ j lt. ap (λ (b : Bool). cond {A = ℕ} b 1 0) (one-snoc eqb j i l) ∙ go j (omega arith) (ℕ-discrete j i)))
     where
       go : (j : ℕ) → j ≤ mostSlots → Dec (j ≡ i) → cond (eqb j i || member j l) 1 0 ≡ at (set (marked l) i 1) j
       go j lj (yes e) =
@@ -142,12 +143,12 @@ module _ (z : WordSize) (s : List ℕ) where
       longer = rw add-one (take-suc L count 0 (some-left ne) ∙ ap (λ (x : ℕ). take count L ++ x ∷ []) (sym (w .here)))
 
       distinct-more : repeats (take (count + 1) L) ≡ false
-      distinct-more = ap repeats longer ∙ repeats-snoc i (take count L) (w .distinct) fresh
+      distinct-more = ap repeats longer ∙ repeats-snoc eqb eqb-equivalence i (take count L) (w .distinct) fresh
 
       within-more : (x : ℕ) → member x (take (count + 1) L) ≡ true → (0 < x) × (x ≤ k)
       within-more x h =
-          ⊎-elim (λ e. (links-some z s x (member-take x (count + 1) L h), omega arith)) (w .within x)
-          (member-cases x i (take count L) (sym (member-snoc x i (take count L)) ∙ ap (member x) (sym longer) ∙ h))
+          ⊎-elim (λ e. (links-some z s x (one-take eqb x (count + 1) L h), omega arith)) (w .within x)
+          (member-cases x i (take count L) (sym (one-snoc eqb x i (take count L)) ∙ ap (member x) (sym longer) ∙ h))
 
       -- as many as there are slots at most
       pub walked-few : count < k

@@ -20,26 +20,40 @@ use Rattle.same.specs.WellFormed.{wellFormed, IsReceipt}
 use Rattle.same.specs.Same.{sameReceipt, isReceiptLong, sameCall}
 use Rattle.same.proofs.Formed.{receipt-of-parts}
 
-same-self : (r : List ℕ) → sameReceipt r r ≡ true
+pub same-self : (r : List ℕ) → sameReceipt r r ≡ true
 unfolding sameReceipt
 same-self r =
     rw (eq-eqb (wordSizeOf r) (wordSizeOf r) refl, eq-eqb (digestLengthOf r) (digestLengthOf r) refl, equal-self (digestOf r), eq-eqb (bitLengthOf r) (bitLengthOf r) refl)
 
+pub same-parts : (a b : List ℕ) → sameReceipt a b ≡ true
+    → (wordSizeOf a ≡ wordSizeOf b) × (digestLengthOf a ≡ digestLengthOf b) × (digestOf a ≡ digestOf b) × (bitLengthOf a ≡ bitLengthOf b)
+unfolding sameReceipt
+same-parts a b e =
+    let w : Bool = eqb (wordSizeOf a) (wordSizeOf b) in
+    let n : Bool = eqb (digestLengthOf a) (digestLengthOf b) in
+    let d : Bool = equal (digestOf a) (digestOf b) in
+    let l : Bool = eqb (bitLengthOf a) (bitLengthOf b) in
+    let p3 : (w && n && d ≡ true) × (l ≡ true) = and-true (w && n && d) l e in
+    let p2 : (w && n ≡ true) × (d ≡ true) = and-true (w && n) d (p3 .0) in
+    let p1 : (w ≡ true) × (n ≡ true) = and-true w n (p2 .0) in (
+      eqb-true (wordSizeOf a) (wordSizeOf b) (p1 .0),
+      eqb-true (digestLengthOf a) (digestLengthOf b) (p1 .1),
+      equal-true (digestOf a) (digestOf b) (p2 .1),
+      eqb-true (bitLengthOf a) (bitLengthOf b) (p3 .1),
+    )
+
+pub same-alike : (a b c : List ℕ) → sameReceipt a b ≡ true → sameReceipt a c ≡ sameReceipt b c
+unfolding sameReceipt
+same-alike a b c e = rw (same-parts a b e .0, same-parts a b e .1, same-parts a b e .2, same-parts a b e .3)
+
 module _ {a b : List ℕ} (ra : IsReceipt a) (rb : IsReceipt b) where
   same-bytes : sameReceipt a b ≡ true → a ≡ b
-  unfolding sameReceipt
   same-bytes e =
-      let w : Bool = eqb (wordSizeOf a) (wordSizeOf b) in
-      let n : Bool = eqb (digestLengthOf a) (digestLengthOf b) in
-      let d : Bool = equal (digestOf a) (digestOf b) in
-      let l : Bool = eqb (bitLengthOf a) (bitLengthOf b) in
-      let p3 : (w && n && d ≡ true) × (l ≡ true) = and-true (w && n && d) l e in
-      let p2 : (w && n ≡ true) × (d ≡ true) = and-true (w && n) d (p3 .0) in
-      let p1 : (w ≡ true) × (n ≡ true) = and-true w n (p2 .0) in
+      let agree : (wordSizeOf a ≡ wordSizeOf b) × (digestLengthOf a ≡ digestLengthOf b) × (digestOf a ≡ digestOf b) × (bitLengthOf a ≡ bitLengthOf b) = same-parts a b e in
       let parts : ℕ → ℕ → List ℕ → ℕ → List ℕ = λ w n d bits. receipt w n (take n (bitsOf d)) bits in
       receipt-of-parts ra
-      ∙ ap₂ (λ (w n : ℕ). parts w n (digestOf a) (bitLengthOf a)) (eqb-true (wordSizeOf a) (wordSizeOf b) (p1 .0)) (eqb-true (digestLengthOf a) (digestLengthOf b) (p1 .1))
-      ∙ ap₂ (parts (wordSizeOf b) (digestLengthOf b)) (equal-true (digestOf a) (digestOf b) (p2 .1)) (eqb-true (bitLengthOf a) (bitLengthOf b) (p3 .1))
+      ∙ ap₂ (λ (w n : ℕ). parts w n (digestOf a) (bitLengthOf a)) (agree .0) (agree .1)
+      ∙ ap₂ (parts (wordSizeOf b) (digestLengthOf b)) (agree .2) (agree .3)
       ∙ sym (receipt-of-parts rb)
 
   pub same-is-equal : sameReceipt a b ≡ equal a b

@@ -1,13 +1,16 @@
--- The answer of Tally to a list of right length.
+-- The answer of Tally to a list of right length, and to one that it accepts.
 -- Assumes nothing.
-use mathlib.Core.Path.{_≡_}
-use mathlib.Core.Bool.{false}
+use mathlib.Core.Path.{_≡_, refl}
+use mathlib.Core.Bool.{Bool, true, false, cond}
 use mathlib.Core.List.{List}
 use Prim.Native.Nat.{ℕ, _*_, _%_, _≤_, _<_}
+use native.Mathlib.Omega.{arith}
 use borrow.Author.Tests.{eq-eqb, lt-ltb, le-ltb}
+use lib.Dec.{ltb}
 use lib.ListN.{length}
 use Rattle.finalization.specs.Receipt.{receiptBytes}
-use Rattle.tally.specs.Tally.{mostReceipts, receiptCount, receipts, firstMalformed, isBadLength, refusedTally, counted, tallyCall}
+use Rattle.tally.specs.declared.Counts.{Counts}
+use Rattle.tally.specs.Tally.{mostReceipts, receiptCount, receiptsOf, firstMalformed, isBadLength, refusedTally, counted, tallyCall}
 
 module _ (s : List ℕ) (whole : length s % receiptBytes ≡ 0) (few : length s ≤ mostReceipts * receiptBytes) {place : ℕ} (is : place ≡ firstMalformed s 0 (receiptCount s)) where
   fine : isBadLength s ≡ false
@@ -18,6 +21,20 @@ module _ (s : List ℕ) (whole : length s % receiptBytes ≡ 0) (few : length s 
   unfolding tallyCall
   malformed-answer lt = rw (fine, ← is, lt-ltb place (receiptCount s) lt)
 
-  pub counted-answer : receiptCount s ≤ place → counted (receipts s (receiptCount s)) ≡ tallyCall s
+  pub counted-answer : receiptCount s ≤ place → counted (receiptsOf s) ≡ tallyCall s
   unfolding tallyCall
   counted-answer le = rw (fine, ← is, le-ltb place (receiptCount s) le)
+
+-- the answer by its two tests
+abbrev pub answer : List ℕ → Bool → Bool → Counts
+answer s bad malformed = cond bad (refusedTally 13 0) (cond malformed (refusedTally 14 (firstMalformed s 0 (receiptCount s))) (counted (receiptsOf s)))
+
+-- a list that is accepted is counted
+pub accepted : (s : List ℕ) → tallyCall s .number ≡ 0 → tallyCall s ≡ counted (receiptsOf s)
+unfolding tallyCall refusedTally
+accepted s taken = go (isBadLength s) (ltb (firstMalformed s 0 (receiptCount s)) (receiptCount s)) taken
+  where
+    go : (bad malformed : Bool) → answer s bad malformed .number ≡ 0 → answer s bad malformed ≡ counted (receiptsOf s)
+    go false false is = refl
+    go false true is = absurd (omega arith)
+    go true malformed is = absurd (omega arith)

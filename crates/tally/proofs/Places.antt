@@ -10,7 +10,7 @@ use lib.ListN.{length, take, drop, length-drop}
 use lib.Seq.{length-take-le}
 use Rattle.finalization.specs.Receipt.{receiptBytes}
 use Rattle.same.specs.Same.{sameReceipt}
-use Rattle.tally.specs.Kinds.{isOneOf}
+use Rattle.tally.specs.Kinds.{cameBefore}
 use Rattle.tally.specs.Tally.{receiptCount, receiptAt, receipts}
 
 -- `&s[from..to]`
@@ -27,21 +27,21 @@ receipt-length s i h = length-take-le receiptBytes (drop (i * receiptBytes) s) (
 
 -- what a loop down from place i has found: r is the same as one of the first i receipts if it is the same as one of the first j
 abbrev pub Left : List ℕ → List ℕ → ℕ → ℕ → Type 0
-Left r s i j = isOneOf r (receipts s i) ≡ isOneOf r (receipts s j)
+Left r s i j = cameBefore r (receipts s i) ≡ cameBefore r (receipts s j)
 
 -- by the last of these
-last-of : (r s : List ℕ) (j : ℕ) → 0 < j → isOneOf r (receipts s j) ≡ (sameReceipt r (receiptAt s (j - 1)) || isOneOf r (receipts s (j - 1)))
-unfolding receipts isOneOf
+last-of : (r s : List ℕ) (j : ℕ) → 0 < j → cameBefore r (receipts s j) ≡ (sameReceipt r (receiptAt s (j - 1)) || cameBefore r (receipts s (j - 1)))
+unfolding receipts cameBefore
 last-of r s zero h = absurd (not-suc-le-zero h)
 last-of r s (suc j) h = let e : suc j - 1 ≡ j = omega arith in rw e
 
 module _ (r s : List ℕ) (i j : ℕ) (left : Left r s i j) where
-  pub found : 0 < j → sameReceipt r (receiptAt s (j - 1)) ≡ true → true ≡ isOneOf r (receipts s i)
+  pub found : 0 < j → sameReceipt r (receiptAt s (j - 1)) ≡ true → true ≡ cameBefore r (receipts s i)
   found some is = sym (left ∙ last-of r s j some ∙ rw is)
 
   pub not-found : 0 < j → sameReceipt r (receiptAt s (j - 1)) ≡ false → Left r s i (j - 1)
   not-found some is = left ∙ last-of r s j some ∙ rw is
 
-  pub none-left : j ≤ 0 → false ≡ isOneOf r (receipts s i)
-  unfolding receipts isOneOf
+  pub none-left : j ≤ 0 → false ≡ cameBefore r (receipts s i)
+  unfolding receipts cameBefore
   none-left none = let e : j ≡ 0 = omega arith in sym (left ∙ rw e)

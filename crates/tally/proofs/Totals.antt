@@ -1,7 +1,7 @@
 -- What the counts of Tally come to, and what the place of a refusal says.
 -- Assumes nothing.
-use mathlib.Core.Path.{_≡_, refl, _∙_}
-use mathlib.Core.Bool.{Bool, true, false, cond}
+use mathlib.Core.Path.{_≡_, refl, ap, _∙_}
+use mathlib.Core.Bool.{Bool, true, false}
 use mathlib.Core.List.{List, []}
 use Prim.Native.Nat.{ℕ, _+_, _<_, zero-le}
 use native.Mathlib.Omega.{arith}
@@ -10,32 +10,21 @@ use lib.Dec.{ltb}
 use Rattle.finalization.specs.Receipt.{receiptBytes}
 use Rattle.same.specs.WellFormed.{wellFormed}
 use Rattle.tally.specs.declared.Counts.{Counts}
-use Rattle.tally.specs.Kinds.{howMany, firsts, reprints, blanks}
-use Rattle.tally.specs.Tally.{mostReceipts, receiptCount, receiptAt, receipts, firstMalformed, isBadLength, refusedTally, counted, tallyCall}
+use Rattle.tally.specs.Kinds.{firsts, reprints, blanks}
+use Rattle.tally.specs.Tally.{mostReceipts, receiptCount, receiptAt, receipts, receiptsOf, firstMalformed, isBadLength, refusedTally, counted, tallyCall}
 use Rattle.tally.proofs.Malformed.{place-malformed, before-well-formed}
 use Rattle.tally.proofs.Counting.{all-counted, length-receipts}
-
--- the answer by its two tests
-abbrev answer : Bool → Bool → ℕ → List (List ℕ) → Counts
-answer bad malformed place rs = cond bad (refusedTally 13 0) (cond malformed (refusedTally 14 place) (counted rs))
+use Rattle.tally.proofs.Answers.{answer, accepted}
 
 module _ (s : List ℕ) where
   abbrev place : ℕ
   place = firstMalformed s 0 (receiptCount s)
 
-  abbrev rs : List (List ℕ)
-  rs = receipts s (receiptCount s)
-
   -- the sum of the three counts of an accepted tally
   pub tally-total : tallyCall s .number ≡ 0 → tallyCall s .firsts + tallyCall s .reprints + tallyCall s .blanks ≡ receiptCount s
-  unfolding tallyCall refusedTally counted
-  tally-total taken = go (isBadLength s) (ltb place (receiptCount s)) taken
-    where
-      go : (bad malformed : Bool) → answer bad malformed place rs .number ≡ 0
-          → answer bad malformed place rs .firsts + answer bad malformed place rs .reprints + answer bad malformed place rs .blanks ≡ receiptCount s
-      go false false is = all-counted rs ∙ length-receipts s (receiptCount s)
-      go false true is = absurd (omega arith)
-      go true malformed is = absurd (omega arith)
+  unfolding counted receiptsOf
+  tally-total taken =
+      ap (λ (c : Counts). c .firsts + c .reprints + c .blanks) (accepted s taken) ∙ all-counted (receiptsOf s) ∙ length-receipts s (receiptCount s)
 
   -- a tally that answers 14 gives the place of a malformed receipt before which each is well formed
   pub tally-place : tallyCall s .number ≡ 14
@@ -44,9 +33,9 @@ module _ (s : List ℕ) where
   unfolding tallyCall refusedTally counted
   tally-place said = go (isBadLength s) (ltb place (receiptCount s)) refl said
     where
-      go : (bad malformed : Bool) → ltb place (receiptCount s) ≡ malformed → answer bad malformed place rs .number ≡ 14
-          → (answer bad malformed place rs .place < receiptCount s) × (wellFormed (receiptAt s (answer bad malformed place rs .place)) ≡ false)
-          × ((j : ℕ) → j < answer bad malformed place rs .place → wellFormed (receiptAt s j) ≡ true)
+      go : (bad malformed : Bool) → ltb place (receiptCount s) ≡ malformed → answer s bad malformed .number ≡ 14
+          → (answer s bad malformed .place < receiptCount s) × (wellFormed (receiptAt s (answer s bad malformed .place)) ≡ false)
+          × ((j : ℕ) → j < answer s bad malformed .place → wellFormed (receiptAt s j) ≡ true)
       go false true is said =
           let lt : place < receiptCount s = ltb-true place (receiptCount s) is in
           (lt, place-malformed s 0 (receiptCount s) (omega arith), λ j h. before-well-formed s 0 (receiptCount s) j zero-le h)
@@ -54,5 +43,5 @@ module _ (s : List ℕ) where
       go true malformed is said = absurd (omega arith)
 
 pub tally-empty : tallyCall [] ≡ record { number = 0; place = 0; firsts = 0; reprints = 0; blanks = 0 }
-unfolding tallyCall isBadLength receiptCount receiptBytes mostReceipts receipts firstMalformed counted firsts reprints blanks howMany
+unfolding tallyCall isBadLength receiptCount receiptBytes mostReceipts receipts receiptsOf firstMalformed counted firsts reprints blanks
 tally-empty = refl

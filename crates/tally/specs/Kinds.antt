@@ -2,10 +2,11 @@
 -- of each.
 -- A list has the latest receipt at its head, so that behind each one stand the earlier ones.
 -- Assumes nothing.
-use mathlib.Core.Bool.{Bool, false, not, cond, _&&_, _||_}
-use mathlib.Core.List.{List, [], _∷_}
-use Prim.Native.Nat.{ℕ, _+_}
+use mathlib.Core.Bool.{Bool, not, _&&_}
+use mathlib.Core.List.{List}
+use Prim.Native.Nat.{ℕ}
 use lib.Dec.{eqb}
+use Rattle.elements.specs.Elements.{isOneOf, howMany}
 use Rattle.same.specs.Parts.{bitLengthOf}
 use Rattle.same.specs.Same.{sameReceipt}
 
@@ -13,22 +14,16 @@ use Rattle.same.specs.Same.{sameReceipt}
 unfoldable pub isBlank : List ℕ → Bool
 isBlank r = eqb (bitLengthOf r) 0
 
--- the receipt r is the same as one of these
-unfoldable pub isOneOf : List ℕ → List (List ℕ) → Bool
-isOneOf r [] = false
-isOneOf r (x ∷ xs) = sameReceipt r x || isOneOf r xs
+-- r is the same as some earlier receipt
+unfoldable pub cameBefore : List ℕ → List (List ℕ) → Bool
+cameBefore r earlier = isOneOf sameReceipt r earlier
 
--- a reprint is the same as some earlier receipt, and a first as none; a blank is neither
+-- a reprint came before, and a first did not; a blank is neither
 unfoldable pub isReprint : List ℕ → List (List ℕ) → Bool
-isReprint r earlier = not (isBlank r) && isOneOf r earlier
+isReprint r earlier = not (isBlank r) && cameBefore r earlier
 
 unfoldable pub isFirst : List ℕ → List (List ℕ) → Bool
-isFirst r earlier = not (isBlank r) && not (isOneOf r earlier)
-
--- how many elements of a list pass a test of the element and of those behind it
-unfoldable pub howMany : {A : Type 0} → (A → List A → Bool) → List A → ℕ
-howMany test [] = 0
-howMany test (x ∷ xs) = cond (test x xs) (howMany test xs + 1) (howMany test xs)
+isFirst r earlier = not (isBlank r) && not (cameBefore r earlier)
 
 unfoldable pub firsts : List (List ℕ) → ℕ
 firsts rs = howMany isFirst rs

@@ -27,6 +27,10 @@ unfoldable pub receipts : List ℕ → ℕ → List (List ℕ)
 receipts s zero = []
 receipts s (suc k) = receiptAt s k ∷ receipts s k
 
+-- all of them
+unfoldable pub receiptsOf : List ℕ → List (List ℕ)
+receiptsOf s = receipts s (receiptCount s)
+
 -- the place of the first malformed one of the k receipts from place i on, or i + k if each is well formed
 unfoldable pub firstMalformed : List ℕ → ℕ → ℕ → ℕ
 firstMalformed s i zero = i
@@ -48,4 +52,4 @@ unfoldable pub tallyCall : List ℕ → Counts
 tallyCall s =
     cond (isBadLength s) (refusedTally 13 0)
     (cond (ltb (firstMalformed s 0 (receiptCount s)) (receiptCount s)) (refusedTally 14 (firstMalformed s 0 (receiptCount s)))
-    (counted (receipts s (receiptCount s))))
+    (counted (receiptsOf s)))

@@ -5,8 +5,8 @@ ghost use lib.ListN.{length};
 ghost use Rattle.lsh.specs.Tabulate.{at};
 ghost use Rattle.finalization.specs.Receipt.{receiptBytes};
 ghost use Rattle.same.specs.WellFormed.{IsReceipt};
-ghost use Rattle.tally.specs.Kinds.{isBlank, isOneOf};
-ghost use Rattle.tally.specs.Tally.{mostReceipts, receiptCount, receiptAt, receipts, firstMalformed, counted, refusedTally, tallyCall};
+ghost use Rattle.tally.specs.Kinds.{isBlank, cameBefore};
+ghost use Rattle.tally.specs.Tally.{mostReceipts, receiptCount, receiptAt, receipts, receiptsOf, firstMalformed, counted, refusedTally, tallyCall};
 ghost use Rattle.tally.specs.Checksum.{checksum};
 use finalization::RECEIPT;
 
@@ -84,7 +84,7 @@ fn first_malformed(list: &[u8]) -> usize
 // The counts of a list of well-formed receipts.
 fn count(list: &[u8]) -> Counts
     requires { ⌜ (length (now list) ≤ mostReceipts * receiptBytes) × ((j : ℕ) → j < receiptCount (now list) → IsReceipt (receiptAt (now list) j)) ⌝ }
-    ensures { λ r. ⌜ r ≡ counted (receipts (now (list .entry)) (receiptCount (now (list .entry)))) ⌝ }
+    ensures { λ r. ⌜ r ≡ counted (receiptsOf (now (list .entry))) ⌝ }
 {
     let end = list.len() / RECEIPT;
     let sums = checksums(list);
@@ -122,7 +122,7 @@ fn is_blank(r: &[u8]) -> bool
 // Whether the receipt at place i is the same as an earlier one. All bytes are compared only where the checksums agree.
 fn came_before(list: &[u8], sums: &[u64; MOST_RECEIPTS], i: usize) -> bool
     requires { ⌜ (i < mostReceipts) × (i < receiptCount (now list)) × ((j : ℕ) → j ≤ i → IsReceipt (receiptAt (now list) j)) × ((j : ℕ) → j ≤ i → at (now sums) j ≡ checksum (receiptAt (now list) j)) ⌝ }
-    ensures { λ b. ⌜ b ≡ isOneOf (receiptAt (now (list .entry)) i) (receipts (now (list .entry)) i) ⌝ }
+    ensures { λ b. ⌜ b ≡ cameBefore (receiptAt (now (list .entry)) i) (receipts (now (list .entry)) i) ⌝ }
 {
     let sum = sums[i];
     let mut j = i;
