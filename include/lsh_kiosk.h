@@ -217,7 +217,8 @@ uint32_t lsh_whole(uint64_t w, uint64_t n, const uint8_t *message, size_t messag
 lsh_sameness lsh_same(const uint8_t *a, size_t a_len, const uint8_t *b, size_t b_len);
 
 /* Counts a list of receipts, which stand end to end: a receipt of a message without bits is a blank. Any other is a first if no earlier one is
- * the same, and a reprint if some earlier one is. The three counts make up the number of receipts; an empty list is accepted.
+ * the same, and a reprint if some earlier one is. The three counts make up the number of receipts, and do not depend on the order in which these
+ * stand; an empty list is accepted.
  * Answers 0 and the three counts; or answers LSH_NO_RECEIPTS if the length is no multiple of LSH_RECEIPT_BYTES or there are more than
  * LSH_MOST_RECEIPTS, then LSH_MALFORMED with the place of the first malformed receipt. */
 lsh_counts lsh_tally(const uint8_t *list, size_t list_len);

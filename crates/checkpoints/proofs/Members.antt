@@ -2,17 +2,17 @@
 -- free choice finds.
 -- Assumes nothing.
 use mathlib.Core.Path.{_≡_, refl, sym, ap, _∙_}
-use mathlib.Core.Bool.{Bool, true, false, cond, _||_, false≢true}
+use mathlib.Core.Bool.{Bool, true, false, cond, false≢true}
 use mathlib.Core.Logic.{_⊎_, inl, inr, ⊎-elim}
-use mathlib.Core.List.{List, [], _∷_, _++_}
+use mathlib.Core.List.{List, [], _∷_}
 use Prim.Native.Nat.{ℕ, zero, suc, _+_, _≤_, _<_}
 use native.Mathlib.Decide.{ℕ-discrete}
 use native.Mathlib.Omega.{arith}
 use lib.Dec.{eqb, leb}
 use lib.ListN.{length, take}
-use borrow.Author.Tests.{eqb-true, eq-eqb, ne-eqb, leb-true, le-leb}
+use borrow.Author.Tests.{eqb-true, eq-eqb, leb-true, le-leb}
 use Rattle.lsh.specs.Tabulate.{at}
-use Rattle.lsh.proofs.Tests.{and-true, or-false, is-false}
+use Rattle.lsh.proofs.Tests.{and-true, is-false}
 use Rattle.elements.proofs.Counting.{IsEquivalence}
 use Rattle.elements.proofs.Repeats.{one-there, one-cases, repeats-there}
 use Rattle.elements.proofs.Different.{not-longer}

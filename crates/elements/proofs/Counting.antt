@@ -6,9 +6,17 @@ use mathlib.Core.List.{List, [], _∷_}
 use Prim.Native.Nat.{ℕ, _+_, _≤_, _<_}
 use native.Mathlib.Omega.{arith}
 use lib.ListN.{length}
-use Rattle.lsh.proofs.Tests.{or-false}
-use Rattle.elements.specs.Elements.{isOneOf, hasRepeats, howMany, howOften}
+use Rattle.elements.specs.Elements.{isOneOf, howMany, howOften}
 use Rattle.elements.specs.Choice.{EachAsOften}
+
+-- what a test for sameness has to satisfy: an element is the same as itself, and two that are the same are the same as the same ones
+pub record IsEquivalence {A : Type 0} (same : A → A → Bool) : Type 0 where
+  pub self : (x : A) → same x x ≡ true
+  pub alike : (x y z : A) → same x y ≡ true → same x z ≡ same y z
+
+-- a test that does not tell the same elements apart
+abbrev pub Respects : {A : Type 0} → (A → A → Bool) → (A → Bool) → Type 0
+Respects {A} same p = (x y : A) → same x y ≡ true → p x ≡ p y
 
 -- a count with one element more, which is counted or not
 abbrev pub more : Bool → ℕ → ℕ
@@ -69,15 +77,6 @@ abbrev pub without : {A : Type 0} → (A → A → Bool) → A → List A → Li
 without same x [] = []
 without same x (y ∷ l) = cond (same x y) l (y ∷ without same x l)
 
--- what a test for sameness has to satisfy: an element is the same as itself, and two that are the same are the same as the same ones
-pub record IsEquivalence {A : Type 0} (same : A → A → Bool) : Type 0 where
-  pub self : (x : A) → same x x ≡ true
-  pub alike : (x y z : A) → same x y ≡ true → same x z ≡ same y z
-
--- a test that does not tell the same elements apart
-abbrev pub Respects : {A : Type 0} → (A → A → Bool) → (A → Bool) → Type 0
-Respects {A} same p = (x y : A) → same x y ≡ true → p x ≡ p y
-
 module _ {A : Type 0} {same : A → A → Bool} (ok : IsEquivalence same) where
   pub same-swap : (x y : A) → same x y ≡ same y x
   same-swap x y = go (same x y) (same y x) refl refl
@@ -98,17 +97,7 @@ module _ {A : Type 0} {same : A → A → Bool} (ok : IsEquivalence same) where
   pub head-often : (x : A) (l : List A) → 0 < howOften same x (x ∷ l)
   head-often x l = rw (ok .self x) (omega arith)
 
-  -- no element stands more than once in a list without repetition
-  pub no-repeats : (l : List A) → hasRepeats same l ≡ false → (x : A) → howOften same x l ≤ 1
-  no-repeats [] e x = omega arith
-  no-repeats (y ∷ l) e x =
-      let p : (isOneOf same y l ≡ false) × (hasRepeats same l ≡ false) = or-false (isOneOf same y l) (hasRepeats same l) e in
-      go (same x y) refl (p .0) (no-repeats l (p .1) x)
-    where
-      go : (b : Bool) → same x y ≡ b → isOneOf same y l ≡ false → howOften same x l ≤ 1 → more b (howOften same x l) ≤ 1
-      go true e none rest = omega (arith, often-alike x y e l, none-often same y l none)
-      go false e none rest = rest
-
+  -- a count without the first one that is the same as x
   pub removed : (p : A → Bool) → Respects same p → (x : A) (l : List A) → 0 < howOften same x l → count p l ≡ more (p x) (count p (without same x l))
   removed p respects x [] some = absurd (omega arith)
   removed p respects x (y ∷ l) some = go (same x y) refl some (removed p respects x l)

@@ -4,13 +4,13 @@
 use mathlib.Core.Path.{_≡_, refl, sym, _∙_}
 use mathlib.Core.Bool.{Bool, true, false, not, cond, _&&_, false≢true}
 use mathlib.Core.List.{List, [], _∷_}
-use Prim.Native.Nat.{ℕ, zero, suc, _+_, _≤_, _<_}
+use Prim.Native.Nat.{ℕ, zero, suc, _≤_, _<_}
 use native.Mathlib.Omega.{arith}
 use lib.ListN.{length}
-use Rattle.lsh.proofs.Tests.{and-true}
 use Rattle.elements.specs.Elements.{isOneOf, hasRepeats, howMany, howOften}
 use Rattle.elements.specs.Choice.{EachAsOften, IsChoice}
-use Rattle.elements.proofs.Counting.{more, le-more, more-monotone, count, one-often, none-often, often-one, without, IsEquivalence, Respects, often-alike, head-often, no-repeats, removed, often-removed, length-removed, none-passes}
+use Rattle.elements.proofs.Counting.{more, le-more, more-monotone, count, one-often, none-often, often-one, without, IsEquivalence, Respects, often-alike, head-often, removed, often-removed, length-removed, none-passes}
+use Rattle.elements.proofs.Repeats.{no-repeats}
 
 -- the elements that pass a test of the element and of those behind it
 abbrev pub those : {A : Type 0} → (A → List A → Bool) → List A → List A
@@ -124,7 +124,7 @@ not-longer {A} {same} ok l c distinct within =
     let choice : IsChoice same (λ x. false) l c =
     record {
       listed = λ x some. one-often same x l (within x (often-one same x c some));
-      different = no-repeats ok c distinct;
+      different = no-repeats same ok c distinct;
       noneAside = count-none c;
     } in
     omega (arith, most ok (λ x. false) (λ x y e. refl) l c choice, howMany-le (λ x behind. not (isOneOf same x behind)) l)

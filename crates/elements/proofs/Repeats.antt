@@ -4,11 +4,12 @@ use mathlib.Core.Path.{_≡_, refl, sym, _∙_}
 use mathlib.Core.Bool.{Bool, true, false, _||_, false≢true}
 use mathlib.Core.Logic.{_⊎_, inl, inr, ⊎-elim}
 use mathlib.Core.List.{List, [], _∷_, _++_}
-use Prim.Native.Nat.{ℕ, zero, suc}
+use Prim.Native.Nat.{ℕ, zero, suc, _≤_}
+use native.Mathlib.Omega.{arith}
 use lib.ListN.{take}
 use Rattle.lsh.proofs.Tests.{or-false, is-false}
-use Rattle.elements.specs.Elements.{isOneOf, hasRepeats}
-use Rattle.elements.proofs.Counting.{IsEquivalence, same-swap}
+use Rattle.elements.specs.Elements.{isOneOf, hasRepeats, howOften}
+use Rattle.elements.proofs.Counting.{IsEquivalence, more, none-often, same-swap, often-alike}
 
 -- a test of either of two
 or-true : (p : Bool) → p || true ≡ true
@@ -61,3 +62,14 @@ module _ {A : Type 0} (same : A → A → Bool) where
       let p : (isOneOf same x l ≡ false) × (hasRepeats same l ≡ false) = repeats-parts x l e in
       let q : (same y x ≡ false) × (isOneOf same y l ≡ false) = or-false (same y x) (isOneOf same y l) h in
       rw (one-snoc x y l, same-swap ok x y, q .0, p .0) (repeats-snoc ok y l (p .1) (q .1))
+
+  -- no element stands more than once in a list without repetition
+  pub no-repeats : IsEquivalence same → (l : List A) → hasRepeats same l ≡ false → (x : A) → howOften same x l ≤ 1
+  no-repeats ok [] e x = omega arith
+  no-repeats ok (y ∷ l) e x =
+      let p : (isOneOf same y l ≡ false) × (hasRepeats same l ≡ false) = repeats-parts y l e in
+      go (same x y) refl (p .0) (no-repeats ok l (p .1) x)
+    where
+      go : (b : Bool) → same x y ≡ b → isOneOf same y l ≡ false → howOften same x l ≤ 1 → more b (howOften same x l) ≤ 1
+      go true e none rest = omega (arith, often-alike ok x y e l, none-often same y l none)
+      go false e none rest = rest

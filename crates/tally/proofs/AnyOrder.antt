@@ -2,7 +2,7 @@
 -- Assumes nothing.
 use mathlib.Core.Path.{_≡_, sym, ap, _∙_}
 use mathlib.Core.List.{List}
-use Prim.Native.Nat.{ℕ, _+_, _≤_}
+use Prim.Native.Nat.{ℕ, _≤_}
 use native.Mathlib.Omega.{arith}
 use lib.Dec.{eqb}
 use lib.ListN.{length}
@@ -41,7 +41,8 @@ module _ (rs ts : List (List ℕ)) (each : EachAsOften sameReceipt rs ts) where
   counted-alike = λ k. record { number = 0; place = 0; firsts = firsts-alike k; reprints = reprints-alike k; blanks = blanks-alike k }
 
 -- two accepted lists that hold the same receipts, each as often, have the same three counts
-pub any-order : (s t : List ℕ) → tallyCall s .number ≡ 0 → tallyCall t .number ≡ 0 → EachAsOften sameReceipt (receiptsOf s) (receiptsOf t) → tallyCall s ≡ tallyCall t
+pub any-order : (s t : List ℕ) → tallyCall s .number ≡ 0 → tallyCall t .number ≡ 0 → EachAsOften sameReceipt (receiptsOf s) (receiptsOf t)
+    → tallyCall s ≡ tallyCall t
 any-order s t taken-s taken-t each = accepted s taken-s ∙ counted-alike (receiptsOf s) (receiptsOf t) each ∙ sym (accepted t taken-t)
 
 module _ (s : List ℕ) (taken : tallyCall s .number ≡ 0) where

@@ -191,6 +191,75 @@ fn random_lists() {
     calls.replay();
 }
 
+fn shuffle(receipts: &mut [Receipt], random: &mut Random) {
+    for last in (1..receipts.len()).rev() {
+        receipts.swap(last, random.below(last as u64 + 1) as usize);
+    }
+}
+
+/// One of each of the receipts that are no blanks.
+fn different(receipts: &[Receipt]) -> Vec<Receipt> {
+    let mut choice: Vec<Receipt> = receipts.iter().copied().filter(|receipt| bit_length(receipt) != 0).collect();
+    choice.sort_unstable();
+    choice.dedup();
+    choice
+}
+
+/// The same receipts in another order have the counts of the first order: shuffled, and with the same ones side by side.
+#[test]
+fn receipts_in_any_order() {
+    let mut random = Random::new(18);
+    let mut calls = Calls::default();
+    for count in (0..40).chain([100, 500, MOST_RECEIPTS]) {
+        let mut list = random_list(count, &mut random);
+        let first = compare::tally(&list.concat());
+        for _ in 0..8 {
+            shuffle(&mut list, &mut random);
+            calls.tally_bytes(&list.concat(), first);
+        }
+        list.sort_unstable();
+        calls.tally_bytes(&list.concat(), first);
+
+        // One of each is a first in a list of these alone, and there are as many of them as firsts in the whole list.
+        let choice = different(&list);
+        assert_eq!(first.firsts, choice.len() as u64);
+        calls.tally_bytes(&choice.concat(), Counts { firsts: first.firsts, ..NO_COUNTS });
+    }
+    calls.replay();
+}
+
+/// Every list of up to five of these: three prints, of which two differ in the length alone, and two blanks. The counts are worked out from how often
+/// each stands in the list, and from nothing else.
+#[test]
+fn every_order_of_a_few_receipts() {
+    let mut random = Random::new(19);
+    let mut calls = Calls::default();
+    let print = receipt(64, 512, 1, &mut random);
+    let prints = [print, with_length(print, 2), receipt(32, 255, 1, &mut random)];
+    let blanks = [with_length(print, 0), receipt(32, 256, 0, &mut random)];
+    let kinds = [&prints[..], &blanks].concat();
+    for length in 0..=5 {
+        for number in 0..kinds.len().pow(length) {
+            let places: Vec<usize> = (0..length).map(|place| number / kinds.len().pow(place) % kinds.len()).collect();
+            let mut how_often = vec![0; kinds.len()];
+            for &kind in &places {
+                how_often[kind] += 1;
+            }
+            let (prints_often, blanks_often) = how_often.split_at(prints.len());
+            let firsts = prints_often.iter().filter(|&&often| often > 0).count() as u64;
+            let right = Counts {
+                firsts,
+                reprints: prints_often.iter().sum::<u64>() - firsts,
+                blanks: blanks_often.iter().sum(),
+                ..NO_COUNTS
+            };
+            let list: Vec<Receipt> = places.iter().map(|&kind| kinds[kind]).collect();
+            calls.tally_bytes(&list.concat(), right);
+        }
+    }
+    calls.replay();
+}
+
 #[test]
 fn the_most_receipts_and_one_more() {
     let mut random = Random::new(12);
@@ -220,10 +289,7 @@ fn try_blanks<W: Word>(calls: &mut Calls, random: &mut Random) {
         let other = receipt(w, n, 0, random);
         calls.tally_bytes(&[blank, other, blank].concat(), Counts { blanks: 3, ..NO_COUNTS });
         let print = with_length(blank, 1 + random.below(MOST_BITS));
-        calls.tally_bytes(
-            &[print, blank, print].concat(),
-            Counts { firsts: 1, reprints: 1, blanks: 1, ..NO_COUNTS },
-        );
+        calls.tally_bytes(&[print, blank, print].concat(), Counts { firsts: 1, reprints: 1, blanks: 1, ..NO_COUNTS });
     }
 }
 
