@@ -86,7 +86,7 @@ member-down (suc k) x h = go (member-cases x (suc k) (downFrom k) h) (member-dow
 
 down-distinct : (k : ℕ) → repeats (downFrom k) ≡ false
 down-distinct zero = refl
-down-distinct (suc k) = rw (is-false (member (suc k) (downFrom k)) (λ h. absurd (omega (arith, member-down k (suc k) h .1)))) (down-distinct k)
+down-distinct (suc k) = rw (is-false (member (suc k) (downFrom k)) (λ h. omega (arith, member-down k (suc k) h .1))) (down-distinct k)
 
 -- a list without repetition that has only numbers of 1 to k is not longer than k
 pub distinct-few : (k : ℕ) (l : List ℕ) → repeats l ≡ false → ((x : ℕ) → member x l ≡ true → (0 < x) × (x ≤ k)) → length l ≤ k

@@ -5,6 +5,8 @@ use mathlib.Core.Bool.{Bool, true, false, cond, _||_, false≢true}
 use mathlib.Core.List.{List, [], _∷_}
 use Prim.Native.Nat.{ℕ, _+_, _≤_, _<_}
 use native.Mathlib.Omega.{arith}
+use borrow.Author.Tests.{ltb-true, ltb-false, lt-ltb}
+use lib.Dec.{ltb}
 use lib.ListN.{length}
 use Rattle.elements.specs.Elements.{isOneOf, howMany, howOften}
 use Rattle.elements.specs.Choice.{EachAsOften}
@@ -40,37 +42,31 @@ more-monotone true j k le = omega arith
 more-monotone false j k le = le
 
 -- how many elements pass a test of the element alone
-abbrev pub count : {A : Type 0} → (A → Bool) → List A → ℕ
-count p l = howMany (λ x behind. p x) l
+abbrev pub passing : {A : Type 0} → (A → Bool) → List A → ℕ
+passing p l = howMany (λ x behind. p x) l
 
-pub count-all : {A : Type 0} (l : List A) → count (λ x. true) l ≡ length l
-count-all [] = refl
-count-all (x ∷ l) = omega (arith, count-all l)
+pub passing-all : {A : Type 0} (l : List A) → passing (λ x. true) l ≡ length l
+passing-all [] = refl
+passing-all (x ∷ l) = omega (arith, passing-all l)
 
--- what is one of a list stands in it, and what is none of it does not
+-- what is one of a list stands in it once or more often
 module _ {A : Type 0} (same : A → A → Bool) (x : A) where
-  pub one-often : (l : List A) → isOneOf same x l ≡ true → 0 < howOften same x l
-  one-often [] e = absurd (false≢true e)
-  one-often (y ∷ l) e = go (same x y) e (one-often l)
+  stands : (l : List A) → isOneOf same x l ≡ ltb 0 (howOften same x l)
+  stands [] = refl
+  stands (y ∷ l) = go (same x y) (stands l)
     where
-      go : (b : Bool) → b || isOneOf same x l ≡ true → (isOneOf same x l ≡ true → 0 < howOften same x l) → 0 < more b (howOften same x l)
-      go true e behind = omega arith
-      go false e behind = behind e
+      go : (b : Bool) → isOneOf same x l ≡ ltb 0 (howOften same x l) → b || isOneOf same x l ≡ ltb 0 (more b (howOften same x l))
+      go true e = sym (lt-ltb 0 (howOften same x l + 1) (omega arith))
+      go false e = e
+
+  pub one-often : (l : List A) → isOneOf same x l ≡ true → 0 < howOften same x l
+  one-often l e = ltb-true 0 (howOften same x l) (sym (stands l) ∙ e)
 
   pub none-often : (l : List A) → isOneOf same x l ≡ false → howOften same x l ≡ 0
-  none-often [] e = refl
-  none-often (y ∷ l) e = go (same x y) e (none-often l)
-    where
-      go : (b : Bool) → b || isOneOf same x l ≡ false → (isOneOf same x l ≡ false → howOften same x l ≡ 0) → more b (howOften same x l) ≡ 0
-      go true e behind = absurd (false≢true (sym e))
-      go false e behind = behind e
+  none-often l e = omega (arith, ltb-false 0 (howOften same x l) (sym (stands l) ∙ e))
 
   pub often-one : (l : List A) → 0 < howOften same x l → isOneOf same x l ≡ true
-  often-one l some = go (isOneOf same x l) refl
-    where
-      go : (b : Bool) → isOneOf same x l ≡ b → b ≡ true
-      go true e = refl
-      go false e = absurd (omega (arith, none-often l e))
+  often-one l some = stands l ∙ lt-ltb 0 (howOften same x l) some
 
 -- the list without the first one that is the same as x
 abbrev pub without : {A : Type 0} → (A → A → Bool) → A → List A → List A
@@ -98,32 +94,32 @@ module _ {A : Type 0} {same : A → A → Bool} (ok : IsEquivalence same) where
   head-often x l = rw (ok .self x) (omega arith)
 
   -- a count without the first one that is the same as x
-  pub removed : (p : A → Bool) → Respects same p → (x : A) (l : List A) → 0 < howOften same x l → count p l ≡ more (p x) (count p (without same x l))
+  pub removed : (p : A → Bool) → Respects same p → (x : A) (l : List A) → 0 < howOften same x l → passing p l ≡ more (p x) (passing p (without same x l))
   removed p respects x [] some = absurd (omega arith)
   removed p respects x (y ∷ l) some = go (same x y) refl some (removed p respects x l)
     where
-      go : (b : Bool) → same x y ≡ b → 0 < more b (howOften same x l) → (0 < howOften same x l → count p l ≡ more (p x) (count p (without same x l)))
-          → more (p y) (count p l) ≡ more (p x) (count p (cond b l (y ∷ without same x l)))
-      go true e some behind = ap (λ (is : Bool). more is (count p l)) (sym (respects x y e))
-      go false e some behind = ap (more (p y)) (behind some) ∙ more-swap (p y) (p x) (count p (without same x l))
+      go : (b : Bool) → same x y ≡ b → 0 < more b (howOften same x l) → (0 < howOften same x l → passing p l ≡ more (p x) (passing p (without same x l)))
+          → more (p y) (passing p l) ≡ more (p x) (passing p (cond b l (y ∷ without same x l)))
+      go true e some behind = ap (λ (is : Bool). more is (passing p l)) (sym (respects x y e))
+      go false e some behind = ap (more (p y)) (behind some) ∙ more-swap (p y) (p x) (passing p (without same x l))
 
   pub often-removed : (z x : A) (l : List A) → 0 < howOften same x l → howOften same z l ≡ more (same z x) (howOften same z (without same x l))
   often-removed z = removed (same z) (same-respects z)
 
   pub length-removed : (x : A) (l : List A) → 0 < howOften same x l → length l ≡ length (without same x l) + 1
-  length-removed x l some = sym (count-all l) ∙ removed (λ x. true) (λ x y e. refl) x l some ∙ ap (λ (k : ℕ). k + 1) (count-all (without same x l))
+  length-removed x l some = sym (passing-all l) ∙ removed (λ x. true) (λ x y e. refl) x l some ∙ ap (λ (k : ℕ). k + 1) (passing-all (without same x l))
 
   module _ (p : A → Bool) (respects : Respects same p) where
     -- where none passes, no element of the list does
-    pub none-passes : (l : List A) → count p l ≡ 0 → (x : A) → 0 < howOften same x l → p x ≡ false
+    pub none-passes : (l : List A) → passing p l ≡ 0 → (x : A) → 0 < howOften same x l → p x ≡ false
     none-passes l none x some = go (p x) (removed p respects x l some)
       where
-        go : (b : Bool) → count p l ≡ more b (count p (without same x l)) → b ≡ false
+        go : (b : Bool) → passing p l ≡ more b (passing p (without same x l)) → b ≡ false
         go true e = absurd (omega arith)
         go false e = refl
 
     -- lists with the same elements, each as often
-    pub as-many : (l m : List A) → EachAsOften same l m → count p l ≡ count p m
+    pub as-many : (l m : List A) → EachAsOften same l m → passing p l ≡ passing p m
     as-many [] [] each = refl
     as-many [] (y ∷ m) each = absurd (omega (arith, each y, head-often y m))
     as-many (x ∷ l) m each =
@@ -133,4 +129,4 @@ module _ {A : Type 0} {same : A → A → Bool} (ok : IsEquivalence same) where
         ap (more (p x)) (as-many l (without same x m) rest) ∙ sym (removed p respects x m some)
 
   pub as-long : (l m : List A) → EachAsOften same l m → length l ≡ length m
-  as-long l m each = sym (count-all l) ∙ as-many (λ x. true) (λ x y e. refl) l m each ∙ count-all m
+  as-long l m each = sym (passing-all l) ∙ as-many (λ x. true) (λ x y e. refl) l m each ∙ passing-all m

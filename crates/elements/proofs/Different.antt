@@ -9,7 +9,7 @@ use native.Mathlib.Omega.{arith}
 use lib.ListN.{length}
 use Rattle.elements.specs.Elements.{isOneOf, hasRepeats, howMany, howOften}
 use Rattle.elements.specs.Choice.{EachAsOften, IsChoice}
-use Rattle.elements.proofs.Counting.{more, le-more, more-monotone, count, one-often, none-often, often-one, without, IsEquivalence, Respects, often-alike, head-often, removed, often-removed, length-removed, none-passes}
+use Rattle.elements.proofs.Counting.{more, le-more, more-monotone, passing, passing-all, one-often, none-often, often-one, without, IsEquivalence, Respects, often-alike, head-often, removed, often-removed, length-removed, none-passes}
 use Rattle.elements.proofs.Repeats.{no-repeats}
 
 -- the elements that pass a test of the element and of those behind it
@@ -27,24 +27,30 @@ module _ {A : Type 0} (test : A → List A → Bool) where
       go false e = e
 
   -- another test is passed by no more of these than of all
-  count-those : (p : A → Bool) (l : List A) → count p (those test l) ≤ count p l
-  count-those p [] = omega arith
-  count-those p (x ∷ l) = go (test x l) (count-those p l)
+  passing-those : (p : A → Bool) (l : List A) → passing p (those test l) ≤ passing p l
+  passing-those p [] = omega arith
+  passing-those p (x ∷ l) = go (test x l) (passing-those p l)
     where
-      go : (b : Bool) → count p (those test l) ≤ count p l → count p (cond b (x ∷ those test l) (those test l)) ≤ more (p x) (count p l)
-      go true le = more-monotone (p x) (count p (those test l)) (count p l) le
-      go false le = omega (arith, le-more (p x) (count p l))
+      go : (b : Bool) → passing p (those test l) ≤ passing p l → passing p (cond b (x ∷ those test l) (those test l)) ≤ more (p x) (passing p l)
+      go true le = more-monotone (p x) (passing p (those test l)) (passing p l) le
+      go false le = omega (arith, le-more (p x) (passing p l))
+
+  howMany-le : (l : List A) → howMany test l ≤ length l
+  howMany-le l = omega (arith, length-those l, passing-those (λ x. true) l, passing-all (those test l), passing-all l)
 
 module _ {A : Type 0} {same : A → A → Bool} (ok : IsEquivalence same) (aside : A → Bool) (respects : Respects same aside) where
   -- a new element is not set aside, and no element behind it is the same
   abbrev new : A → List A → Bool
   new x behind = not (aside x) && not (isOneOf same x behind)
 
+  -- what was chosen from a list is a choice from any list in which all of it stands
+  choice-from : {l m c : List A} → IsChoice same aside l c → ((x : A) → 0 < howOften same x c → 0 < howOften same x m) → IsChoice same aside m c
+  choice-from is listed = record { listed = listed; different = is .different; noneAside = is .noneAside }
+
   module _ {x : A} {l c : List A} (is : IsChoice same aside (x ∷ l) c) where
     -- it is a choice from l, if what is the same as x stands there or was not chosen
     without-head : ((z : A) → 0 < howOften same z c → same z x ≡ true → 0 < howOften same z l) → IsChoice same aside l c
-    without-head still =
-        record { listed = λ z some. go (same z x) (still z some) (is .listed z some); different = is .different; noneAside = is .noneAside }
+    without-head still = choice-from is (λ z some. go (same z x) (still z some) (is .listed z some))
       where
         go : {k : ℕ} (b : Bool) → (b ≡ true → 0 < k) → 0 < more b k → 0 < k
         go true still there = still refl
@@ -56,7 +62,7 @@ module _ {A : Type 0} {same : A → A → Bool} (ok : IsEquivalence same) (aside
         record {
           listed = λ z. listed (same z x) (often z) (is .different z) (is .listed z);
           different = λ z. omega (arith, often z, le-more (same z x) (howOften same z (without same x c)), is .different z);
-          noneAside = omega (arith, removed ok aside respects x c some, le-more (aside x) (count aside (without same x c)), is .noneAside);
+          noneAside = omega (arith, removed ok aside respects x c some, le-more (aside x) (passing aside (without same x c)), is .noneAside);
         }
       where
         often : (z : A) → howOften same z c ≡ more (same z x) (howOften same z (without same x c))
@@ -91,13 +97,13 @@ module _ {A : Type 0} {same : A → A → Bool} (ok : IsEquivalence same) (aside
       go true b c eb ec le = le
       go false true c eb ec le = le
       go false false false eb ec le = rw ec le
-      go false false true eb ec le = rw ec (omega (arith, count-those new (same z) l, often-alike ok z x ec l, none-often same x l eb))
+      go false false true eb ec le = rw ec (omega (arith, passing-those new (same z) l, often-alike ok z x ec l, none-often same x l eb))
 
-  new-none-aside : (l : List A) → count aside (those new l) ≡ 0
+  new-none-aside : (l : List A) → passing aside (those new l) ≡ 0
   new-none-aside [] = refl
   new-none-aside (x ∷ l) = go (aside x) (isOneOf same x l) refl (new-none-aside l)
     where
-      go : (a b : Bool) → aside x ≡ a → count aside (those new l) ≡ 0 → count aside (cond (not a && not b) (x ∷ those new l) (those new l)) ≡ 0
+      go : (a b : Bool) → aside x ≡ a → passing aside (those new l) ≡ 0 → passing aside (cond (not a && not b) (x ∷ those new l) (those new l)) ≡ 0
       go true b ea none = none
       go false true ea none = none
       go false false ea none = rw ea none
@@ -105,7 +111,7 @@ module _ {A : Type 0} {same : A → A → Bool} (ok : IsEquivalence same) (aside
   -- and those that are new are a choice, with that many elements
   pub new-choice : (l : List A) → IsChoice same aside l (those new l)
   new-choice l =
-      record { listed = λ z some. omega (arith, count-those new (same z) l); different = new-different l; noneAside = new-none-aside l }
+      record { listed = λ z some. omega (arith, passing-those new (same z) l); different = new-different l; noneAside = new-none-aside l }
 
   -- a list with the same elements, each as often, has as many new ones
   pub as-many-new : (l m : List A) → EachAsOften same l m → howMany new l ≡ howMany new m
@@ -113,8 +119,7 @@ module _ {A : Type 0} {same : A → A → Bool} (ok : IsEquivalence same) (aside
     where
       fewer : (l m : List A) → EachAsOften same l m → howMany new l ≤ howMany new m
       fewer l m each =
-          let also : IsChoice same aside m (those new l) =
-          record { listed = λ z some. omega (arith, each z, new-choice l .listed z some); different = new-different l; noneAside = new-none-aside l } in
+          let also : IsChoice same aside m (those new l) = choice-from (new-choice l) (λ z some. omega (arith, each z, new-choice l .listed z some)) in
           omega (arith, length-those new l, most m (those new l) also)
 
 -- a list without repetition whose elements all stand in another list is not longer than that
@@ -125,18 +130,10 @@ not-longer {A} {same} ok l c distinct within =
     record {
       listed = λ x some. one-often same x l (within x (often-one same x c some));
       different = no-repeats same ok c distinct;
-      noneAside = count-none c;
+      noneAside = passing-none c;
     } in
     omega (arith, most ok (λ x. false) (λ x y e. refl) l c choice, howMany-le (λ x behind. not (isOneOf same x behind)) l)
   where
-    count-none : (c : List A) → count (λ x. false) c ≡ 0
-    count-none [] = refl
-    count-none (x ∷ c) = count-none c
-
-    howMany-le : (test : A → List A → Bool) (l : List A) → howMany test l ≤ length l
-    howMany-le test [] = omega arith
-    howMany-le test (x ∷ l) = go (test x l) (howMany-le test l)
-      where
-        go : (b : Bool) → howMany test l ≤ length l → more b (howMany test l) ≤ length (x ∷ l)
-        go true le = omega arith
-        go false le = omega arith
+    passing-none : (c : List A) → passing (λ x. false) c ≡ 0
+    passing-none [] = refl
+    passing-none (x ∷ c) = passing-none c

@@ -1,7 +1,7 @@
 -- Which elements stand in a part of a list and in a longer one, and that no element is repeated there.
 -- Assumes nothing.
 use mathlib.Core.Path.{_≡_, refl, sym, _∙_}
-use mathlib.Core.Bool.{Bool, true, false, _||_, false≢true}
+use mathlib.Core.Bool.{Bool, true, false, _||_, or-true, false≢true}
 use mathlib.Core.Logic.{_⊎_, inl, inr, ⊎-elim}
 use mathlib.Core.List.{List, [], _∷_, _++_}
 use Prim.Native.Nat.{ℕ, zero, suc, _≤_}
@@ -12,10 +12,6 @@ use Rattle.elements.specs.Elements.{isOneOf, hasRepeats, howOften}
 use Rattle.elements.proofs.Counting.{IsEquivalence, more, none-often, same-swap, often-alike}
 
 -- a test of either of two
-or-true : (p : Bool) → p || true ≡ true
-or-true true = refl
-or-true false = refl
-
 or-either : (p q : Bool) → p || q ≡ true → (p ≡ true) ⊎ (q ≡ true)
 or-either true q e = inl refl
 or-either false q e = inr e

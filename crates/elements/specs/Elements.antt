@@ -1,4 +1,5 @@
--- Elements of a list: whether one stands in it, how often, whether one stands in it twice, and how many pass a test.
+-- Elements of a list: whether one stands in it, how often, whether one stands in it twice, and how many pass a test. They are slots in W1 of document 02,
+-- and receipts in W4 and W5.
 -- Two elements are the same if a test says so that is given; they need not be equal.
 -- Assumes nothing.
 use mathlib.Core.Bool.{Bool, false, cond, _||_}

@@ -49,11 +49,10 @@ same-alike a b c e = rw (same-parts a b e .0, same-parts a b e .1, same-parts a 
 module _ {a b : List ℕ} (ra : IsReceipt a) (rb : IsReceipt b) where
   same-bytes : sameReceipt a b ≡ true → a ≡ b
   same-bytes e =
-      let agree : (wordSizeOf a ≡ wordSizeOf b) × (digestLengthOf a ≡ digestLengthOf b) × (digestOf a ≡ digestOf b) × (bitLengthOf a ≡ bitLengthOf b) = same-parts a b e in
       let parts : ℕ → ℕ → List ℕ → ℕ → List ℕ = λ w n d bits. receipt w n (take n (bitsOf d)) bits in
       receipt-of-parts ra
-      ∙ ap₂ (λ (w n : ℕ). parts w n (digestOf a) (bitLengthOf a)) (agree .0) (agree .1)
-      ∙ ap₂ (parts (wordSizeOf b) (digestLengthOf b)) (agree .2) (agree .3)
+      ∙ ap₂ (λ (w n : ℕ). parts w n (digestOf a) (bitLengthOf a)) (same-parts a b e .0) (same-parts a b e .1)
+      ∙ ap₂ (parts (wordSizeOf b) (digestLengthOf b)) (same-parts a b e .2) (same-parts a b e .3)
       ∙ sym (receipt-of-parts rb)
 
   pub same-is-equal : sameReceipt a b ≡ equal a b

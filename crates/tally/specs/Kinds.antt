@@ -18,7 +18,7 @@ isBlank r = eqb (bitLengthOf r) 0
 unfoldable pub cameBefore : List ℕ → List (List ℕ) → Bool
 cameBefore r earlier = isOneOf sameReceipt r earlier
 
--- a reprint came before, and a first did not; a blank is neither
+-- a reprint is a receipt that came before, and a first one that did not; a blank is neither
 unfoldable pub isReprint : List ℕ → List (List ℕ) → Bool
 isReprint r earlier = not (isBlank r) && cameBefore r earlier
 
