@@ -1,8 +1,8 @@
 /* An order of pictures, as a kiosk's driver keeps it: order FILE...
  *
  * Prints a receipt of each picture and of the order, each with the length in bits that it has, and how many pictures are firsts, reprints
- * and blanks. Then the shopper drops the last picture: the order's record is wound back, and the receipt and the counts of what remains are
- * printed.
+ * and blanks. Then the shopper drops the last picture: the order's record is wound back, in steps, and the receipt and the counts of what
+ * remains are printed.
  *
  * The calls are declared, with their answers, in lsh_kiosk.h. */
 #include <errno.h>
@@ -101,11 +101,29 @@ static void print_receipt(const uint8_t *receipt, const char *name)
 }
 
 /* The receipt of the order. Its record is not changed, so the order may go on. */
+static void write_order(lsh_record order, uint8_t *receipt)
+{
+    must_be_accepted(lsh_close(order, 0, 0, receipt, LSH_RECEIPT_BYTES), "lsh_close");
+}
+
 static void print_order(lsh_record order, const char *name)
 {
     uint8_t receipt[LSH_RECEIPT_BYTES];
-    must_be_accepted(lsh_close(order, 0, 0, receipt, sizeof receipt), "lsh_close");
+    write_order(order, receipt);
     print_receipt(receipt, name);
+}
+
+/* Ends the program if two records give different receipts. */
+static void must_give_same_receipt(lsh_record order, lsh_record other)
+{
+    uint8_t receipt[LSH_RECEIPT_BYTES], other_receipt[LSH_RECEIPT_BYTES];
+    write_order(order, receipt);
+    write_order(other, other_receipt);
+    lsh_sameness sameness = lsh_same(receipt, sizeof receipt, other_receipt, sizeof other_receipt);
+    must_be_accepted(sameness.number, "lsh_same");
+    if (!sameness.same) {
+        fail("the order", "it has another receipt");
+    }
 }
 
 /* The counts of the first pictures. */
@@ -129,17 +147,35 @@ static lsh_record add_picture(lsh_record order, size_t i, const char *name)
     return outcome.next;
 }
 
-/* The order cut to its first `length` bytes. */
+/* The order cut to its first `length` bytes, in steps: a large order takes long, and the driver has its screen to draw meanwhile. (Where that
+ * does not matter, one lsh_rewind or lsh_rewind_roll does the same.) */
 static lsh_record cut_order(lsh_record order, size_t length)
 {
-    /* A block begins at each multiple of a block's bytes. The order is handed back from where the block begins that the cut lies in, and
+    /* A block begins at each multiple of a block's bytes. The order is handed back down to where the block begins that the cut lies in, and
      * the bytes of this block before the cut are kept. */
-    size_t keep = length % LSH_BLOCK_BYTES(order.w);
+    size_t block = LSH_BLOCK_BYTES(order.w);
+    size_t keep = length % block;
     size_t from = length - keep;
-    const uint8_t *h = bytes + from;
-    size_t h_len = order.total - from;
-    lsh_outcome outcome = has_roll ? lsh_rewind_roll(order, keep, h, h_len, roll, sizeof roll) : lsh_rewind(order, keep, h, h_len);
-    must_be_accepted(outcome.number, "Rewind");
+
+    /* First the bytes since the last whole block. */
+    size_t place = order.total - order.total % block;
+    lsh_outcome outcome = lsh_begin(order, bytes + place, order.total % block);
+    must_be_accepted(outcome.number, "lsh_begin");
+
+    /* Then one whole block after the other, from the last one on. */
+    while (place > from) {
+        place -= block;
+        outcome = lsh_hand_back(outcome.next, bytes + place, block);
+        must_be_accepted(outcome.number, "lsh_hand_back");
+        /* Here a driver draws its screen. */
+    }
+
+    /* Up to here nothing is dropped: the receipt is still that of the order before, and lsh_abandon would give its record again. */
+    must_give_same_receipt(outcome.next, order);
+
+    /* The end drops the bytes. An order with a roll has it in this step, and in no other one of a rewind in steps. */
+    outcome = has_roll ? lsh_end_roll(outcome.next, keep, roll, sizeof roll) : lsh_end(outcome.next, keep);
+    must_be_accepted(outcome.number, "the end of the rewind");
     return outcome.next;
 }
 

@@ -30,7 +30,8 @@ extern "C" {
 #define LSH_UNSOUND_RECORD 3u    /* the record is not sound: see lsh_record */
 #define LSH_BAD_LENGTH 4u        /* a chain that is not 2w bytes or a block that is not 4w bytes */
 #define LSH_TOO_LONG 5u          /* a message or an order of more than LSH_MOST_BYTES bytes */
-#define LSH_BAD_START 6u         /* bytes handed back that are longer than the order, or do not begin where a block begins */
+#define LSH_BAD_START 6u         /* bytes handed back that are longer than the order, or do not begin where a block begins; in a split rewind,
+                                  * not as many as the step takes, or no whole block is left to hand back */
 #define LSH_BAD_KEEP 7u          /* more bytes to keep than were handed back, or a block or more */
 #define LSH_HELD_DIFFER 8u       /* the last bytes handed back are not those that the record holds */
 #define LSH_OPENING_DIFFERS 9u   /* all of the order was handed back, and it does not lead back to the opening chain */
@@ -41,6 +42,7 @@ extern "C" {
 #define LSH_MALFORMED 14u        /* a receipt that has not the form of one: see lsh_whole */
 #define LSH_BAD_ROLL 15u         /* a buffer that is no roll, or not the roll of such a record: see "an order with a roll" */
 #define LSH_FULL_ROLL 16u        /* the linked slots of the roll and the checkpoints due are together more than its slots */
+#define LSH_OUT_OF_TURN 17u      /* an Append, a Rewind or a begin while a split rewind is unfinished, or another step of one with none begun */
 
 /* ---- figures ---- */
 
@@ -76,14 +78,23 @@ extern "C" {
 /* ---- records and answers with more than a number ---- */
 
 /* What is kept of an order between calls: the word size, the digest length in bits, how many bytes the order has, the chain after its
- * whole blocks, and in `held` the bytes since the last whole block, the other places zero. The record is plain data: it can be copied, kept and
- * stored, and an old copy is still the record of the order as it was then.
- * A record is sound if w is 32 or 64, n is from 1 to 8w, total is at most LSH_MOST_BYTES, each word of the chain is below 2^w, and each
- * held byte from place (total mod 4w) on is zero. */
+ * whole blocks, and in `held` the bytes since the last whole block, the other places zero. Then how far a split rewind is: the mark, 0, or 1
+ * once begun, the second chain, which is run back so far, in `back` the bytes handed back last, the other places zero, and how many blocks
+ * were handed back; with none begun these four are zero. The record is plain data: it can be copied, kept and stored, and an old copy is
+ * still the record of the order as it was then.
+ * A record is sound if w is 32 or 64, n is from 1 to 8w, total is at most LSH_MOST_BYTES, each word of the chain is below 2^w, each held
+ * byte from place (total mod 4w) on is zero, the mark is 0 or 1, and
+ * - with mark 0, second, back and blocks are zero;
+ * - with mark 1, each word of second is below 2^w, each byte of back from place 4w on is zero, blocks is at most the order's whole blocks,
+ *   and if blocks is 0, second is the chain and back is zero. */
 typedef struct lsh_record {
     uint64_t w, n, total;
     uint64_t chain[16];
     uint8_t held[256];
+    uint64_t mark;
+    uint64_t second[16];
+    uint8_t back[256];
+    uint64_t blocks;
 } lsh_record;
 
 /* The answer to a call on an order: its number, how many blocks were run (0 if it is refused), and the record that follows (the one given
@@ -109,10 +120,12 @@ typedef struct lsh_counts {
 
 /* The archive has these layouts. */
 static_assert(offsetof(lsh_record, w) == 0 && offsetof(lsh_record, n) == 8 && offsetof(lsh_record, total) == 16
-                  && offsetof(lsh_record, chain) == 24 && offsetof(lsh_record, held) == 152 && sizeof(lsh_record) == 408,
+                  && offsetof(lsh_record, chain) == 24 && offsetof(lsh_record, held) == 152 && offsetof(lsh_record, mark) == 408
+                  && offsetof(lsh_record, second) == 416 && offsetof(lsh_record, back) == 544 && offsetof(lsh_record, blocks) == 800
+                  && sizeof(lsh_record) == 808,
               "lsh_record is laid out as in the archive");
 static_assert(offsetof(lsh_outcome, number) == 0 && offsetof(lsh_outcome, count) == 8 && offsetof(lsh_outcome, next) == 16
-                  && sizeof(lsh_outcome) == 424,
+                  && sizeof(lsh_outcome) == 824,
               "lsh_outcome is laid out as in the archive");
 static_assert(offsetof(lsh_sameness, number) == 0 && offsetof(lsh_sameness, same) == 4 && sizeof(bool) == 1 && sizeof(lsh_sameness) == 8,
               "lsh_sameness is laid out as in the archive");
@@ -137,29 +150,57 @@ lsh_outcome lsh_open(uint64_t w, uint64_t n);
 
 /* Adds a piece of any length to the end of an order.
  * Answers 0 with the record of the longer order and the number of blocks that were run forward: the whole blocks of the order after the
- * piece less those before it. Or answers LSH_UNSOUND_RECORD or LSH_TOO_LONG, tested in that order. */
+ * piece less those before it. Or answers LSH_UNSOUND_RECORD, LSH_OUT_OF_TURN or LSH_TOO_LONG, tested in that order. */
 lsh_outcome lsh_append(lsh_record r, const uint8_t *piece, size_t piece_len);
 
 /* Takes bytes off the end of an order. h are the last bytes of the order, from a place on where a block begins (a multiple of 4w); the
  * first `keep` of them remain, less than a block. To cut an order to c bytes, keep is c mod 4w and h is what the order has from place
  * c - keep on (docs/GUIDE.md has a drawing).
  * Answers 0 with the record of the shorter order and the number of blocks that were run backward: the whole blocks of h. Or answers
- * LSH_UNSOUND_RECORD, LSH_BAD_START, LSH_BAD_KEEP, LSH_HELD_DIFFER or LSH_OPENING_DIFFERS, tested in that order. Hand back what was
- * appended: other bytes are taken where none of these tests shows them, and the record that follows is then not that of the order. */
+ * LSH_UNSOUND_RECORD, LSH_OUT_OF_TURN, LSH_BAD_START, LSH_BAD_KEEP, LSH_HELD_DIFFER or LSH_OPENING_DIFFERS, tested in that order. Hand back
+ * what was appended: other bytes are taken where none of these tests shows them, and the record that follows is then not that of the order. */
 lsh_outcome lsh_rewind(lsh_record r, uint64_t keep, const uint8_t *h, size_t h_len);
 
 /* Writes the receipt of an order: its bytes, and then the top e bits of one more byte, `last`. Where the order is a whole number of bytes,
- * last and e are 0. The receipt is the one that lsh_whole writes for these bytes. The order may go on after it.
+ * last and e are 0. The receipt is the one that lsh_whole writes for these bytes. The order may go on after it. While a split rewind is
+ * unfinished, the order is that before the rewind.
  * Answers 0 and writes the first LSH_RECEIPT_BYTES bytes of the output, and no other; or answers LSH_UNSOUND_RECORD, LSH_BAD_EXTRA_BITS,
  * LSH_BAD_LAST_BYTE or LSH_SHORT_OUTPUT, tested in that order, and changes nothing. */
 uint32_t lsh_close(lsh_record r, uint8_t last, uint64_t e, uint8_t *output, size_t output_len);
 
+/* ---- a rewind that is split into steps ---- */
+
+/* A rewind of a large order takes long. In steps the driver does something else in between: lsh_begin, then lsh_hand_back for each whole
+ * block from the last one on, then lsh_end. Until the end the record is that of the order before the rewind, lsh_close gives its receipt, and
+ * lsh_abandon goes back to it. Nothing can be appended or wound back otherwise meanwhile. A refused step returns the record as it was
+ * given; the count of a step is 0, and that of the end is the number of blocks handed back. */
+
+/* Begins a split rewind. `bytes` are those that the order has since its last whole block, as many as (total mod 4w); they may be none.
+ * Answers 0; or LSH_UNSOUND_RECORD, LSH_OUT_OF_TURN, LSH_BAD_START or LSH_HELD_DIFFER, tested in that order. */
+lsh_outcome lsh_begin(lsh_record r, const uint8_t *bytes, size_t bytes_len);
+
+/* Hands back one block of 4w bytes: the order's last whole block that was not yet handed back.
+ * Answers 0; or LSH_UNSOUND_RECORD, LSH_OUT_OF_TURN or LSH_BAD_START, tested in that order. Another block than the order has there is taken,
+ * and what lsh_end gives is then not the order. */
+lsh_outcome lsh_hand_back(lsh_record r, const uint8_t *block, size_t block_len);
+
+/* Ends a split rewind. The first `keep` bytes of the block handed back last remain, or of the held bytes if none was: to cut an order to c
+ * bytes, hand back the blocks down to the one that begins at c - keep, where keep is c mod 4w (the held bytes alone, if that is where they
+ * begin).
+ * Answers 0 with the record and the count that one lsh_rewind over all these bytes gives. Or answers LSH_UNSOUND_RECORD, LSH_OUT_OF_TURN,
+ * LSH_BAD_KEEP or LSH_OPENING_DIFFERS, tested in that order; the split rewind is then still begun. */
+lsh_outcome lsh_end(lsh_record r, uint64_t keep);
+
+/* Abandons a split rewind: the record is again the one that lsh_begin was given.
+ * Answers 0; or LSH_UNSOUND_RECORD or LSH_OUT_OF_TURN, tested in that order. */
+lsh_outcome lsh_abandon(lsh_record r);
+
 /* ---- an order with a roll ---- */
 
 /* An order may have a roll: a buffer with the order's checkpoints, which are the chains at every LSH_CHECKPOINT_BLOCKS-th block, so that
- * the order can be taken up at its middle. An order has a roll in all its Append and Rewind calls or in none: with one, lsh_append_roll and
- * lsh_rewind_roll take the place of lsh_append and lsh_rewind. The driver keeps the roll with the record, and lends it to each of these
- * calls as the last one left it.
+ * the order can be taken up at its middle. An order has a roll in all its Append and Rewind calls and ends of split rewinds, or in none:
+ * with one, lsh_append_roll, lsh_rewind_roll and lsh_end_roll take the place of lsh_append, lsh_rewind and lsh_end. The driver keeps the roll
+ * with the record, and lends it to each of these calls as the last one left it.
  *
  * A roll has 1 to LSH_MOST_SLOTS slots, counted from 1, and each holds one checkpoint; so the order always has less than
  * (slots + 1) * LSH_CHECKPOINT_BLOCKS whole blocks, and what would make it longer gets LSH_FULL_ROLL. A new roll is
@@ -181,16 +222,22 @@ uint32_t lsh_close(lsh_record r, uint8_t last, uint64_t e, uint8_t *output, size
  * counted from 1, is a multiple of LSH_CHECKPOINT_BLOCKS. For each a slot that is not linked is taken, and which one is left open. The
  * slot's index becomes 0, the chain is written to the slot, and its number becomes the index of the slot that was linked last, or of the
  * head. No other byte of the roll is written.
- * Answers 0 with the record and the count that lsh_append gives. Or answers LSH_UNSOUND_RECORD, LSH_BAD_ROLL, LSH_TOO_LONG or
- * LSH_FULL_ROLL, tested in that order, and changes no byte of the roll. */
+ * Answers 0 with the record and the count that lsh_append gives. Or answers LSH_UNSOUND_RECORD, LSH_OUT_OF_TURN, LSH_BAD_ROLL, LSH_TOO_LONG
+ * or LSH_FULL_ROLL, tested in that order, and changes no byte of the roll. */
 lsh_outcome lsh_append_roll(lsh_record r, const uint8_t *piece, size_t piece_len, uint8_t *roll, size_t roll_len);
 
 /* Takes bytes off the end of an order with a roll, as lsh_rewind does, and unlinks the checkpoints past the new end; one at the end itself
  * stays. If there are any, the index that led to the first slot unlinked becomes 0, and the slots serve again. No other byte of the roll is
  * written.
- * Answers 0 with the record and the count that lsh_rewind gives. Or answers LSH_UNSOUND_RECORD, LSH_BAD_ROLL, LSH_BAD_START, LSH_BAD_KEEP,
- * LSH_HELD_DIFFER or LSH_OPENING_DIFFERS, tested in that order, and changes no byte of the roll. */
+ * Answers 0 with the record and the count that lsh_rewind gives. Or answers LSH_UNSOUND_RECORD, LSH_OUT_OF_TURN, LSH_BAD_ROLL, LSH_BAD_START,
+ * LSH_BAD_KEEP, LSH_HELD_DIFFER or LSH_OPENING_DIFFERS, tested in that order, and changes no byte of the roll. */
 lsh_outcome lsh_rewind_roll(lsh_record r, uint64_t keep, const uint8_t *h, size_t h_len, uint8_t *roll, size_t roll_len);
+
+/* Ends a split rewind of an order with a roll, as lsh_end does, and unlinks the checkpoints past the new end, as lsh_rewind_roll does. The
+ * other steps take no roll.
+ * Answers 0 with the record and the count that lsh_end gives. Or answers LSH_UNSOUND_RECORD, LSH_OUT_OF_TURN, LSH_BAD_ROLL, LSH_BAD_KEEP or
+ * LSH_OPENING_DIFFERS, tested in that order, and changes no byte of the roll. */
+lsh_outcome lsh_end_roll(lsh_record r, uint64_t keep, uint8_t *roll, size_t roll_len);
 
 /* ---- one message ---- */
 

@@ -13,6 +13,9 @@
 
 #define COUNT(array) (sizeof(array) / sizeof((array)[0]))
 
+/* Bytes of an order from one checkpoint to the next. */
+#define INTERVAL(w) ((size_t)LSH_CHECKPOINT_BLOCKS * LSH_BLOCK_BYTES(w))
+
 #define SHOWN_FAILURES 20 /* further ones are only counted */
 
 /* ---- checks ---- */

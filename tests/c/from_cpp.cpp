@@ -1,4 +1,5 @@
-// Includes the header and makes each call from C++: an order of two pieces, the second of which is dropped again, and one with a roll.
+// Includes the header and makes each call from C++: an order of two pieces, the second of which is dropped again, at once and in steps, and one
+// with a roll.
 #include "lsh_kiosk.h"
 
 #include <cstdio>
@@ -30,13 +31,26 @@ int main()
         && counts.number == LSH_ACCEPTED && counts.firsts == 1 && counts.reprints == 1 && counts.blanks == 0
         && receipts[LSH_LENGTH_PLACE] == 8 * dropped.next.total;
 
-    // A piece of one checkpoint on a roll of one slot, and all of it handed back.
+    // The second piece once more: a rewind in steps is begun and abandoned, and then begun and ended, without a whole block.
+    const lsh_outcome begun = lsh_begin(both.next, bytes, 3);
+    const lsh_outcome abandoned = lsh_abandon(begun.next);
+    const lsh_outcome ended = lsh_end(begun.next, 1);
+    good = good && begun.number == LSH_ACCEPTED && begun.next.mark == 1 && lsh_append(begun.next, bytes, 1).number == LSH_OUT_OF_TURN
+        && abandoned.number == LSH_ACCEPTED && std::memcmp(&abandoned.next, &both.next, sizeof both.next) == 0
+        && ended.number == LSH_ACCEPTED && ended.count == 0 && std::memcmp(&ended.next, &first.next, sizeof first.next) == 0;
+
+    // A piece of one checkpoint on a roll of one slot, and all of it handed back; and laid again, with only its last block handed back.
     static const uint8_t piece[LSH_CHECKPOINT_BLOCKS * LSH_BLOCK_BYTES(32)] = {};
     uint8_t roll[LSH_ROLL_BYTES(32, 1)] = {};
     const lsh_outcome laid = lsh_append_roll(opened.next, piece, sizeof piece, roll, sizeof roll);
     good = good && laid.number == LSH_ACCEPTED && laid.count == LSH_CHECKPOINT_BLOCKS && roll[0] == 1 && roll[1] == 0;
     const lsh_outcome back = lsh_rewind_roll(laid.next, 0, piece, sizeof piece, roll, sizeof roll);
     good = good && back.number == LSH_ACCEPTED && std::memcmp(&back.next, &opened.next, sizeof opened.next) == 0 && roll[0] == 0;
+    const lsh_outcome again = lsh_append_roll(back.next, piece, sizeof piece, roll, sizeof roll);
+    const lsh_outcome handed = lsh_hand_back(lsh_begin(again.next, piece, 0).next, piece, sizeof block);
+    good = good && roll[0] == 1 && handed.number == LSH_ACCEPTED && handed.count == 0 && handed.next.blocks == 1;
+    const lsh_outcome shorter = lsh_end_roll(handed.next, 0, roll, sizeof roll);
+    good = good && shorter.number == LSH_ACCEPTED && shorter.count == 1 && shorter.next.total == sizeof piece - sizeof block && roll[0] == 0;
 
     std::puts(good ? "from_cpp: all calls passed" : "from_cpp: FAILED");
     return good ? 0 : 1;

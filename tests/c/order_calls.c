@@ -20,10 +20,8 @@
 
 /* ---- calls ---- */
 
-/* The calls once more, as the archive has them: with the address of their answer. */
+/* The call once more, as the archive has it: with the address of its answer. */
 void *open_to(void *answer, uint64_t w, uint64_t n) __asm__("lsh_open");
-void *append_to(void *answer, lsh_record r, const uint8_t *piece, size_t piece_len) __asm__("lsh_append");
-void *rewind_to(void *answer, lsh_record r, uint64_t keep, const uint8_t *h, size_t h_len) __asm__("lsh_rewind");
 
 static lsh_record open_order(uint64_t w, uint64_t n)
 {
@@ -35,54 +33,6 @@ static lsh_record open_order(uint64_t w, uint64_t n)
     open_to(place_for_answer(&place), w, n);
     check_place(&right, said);
     return outcome.next;
-}
-
-/* A piece may be said to be longer than its memory if the call has to be refused: a refused call reads nothing of it. */
-static lsh_record append(const lsh_record *r, struct guarded *lent, size_t from, size_t piece_len)
-{
-    char said[200];
-    SAY(said, "lsh_append", r, "%zu bytes", piece_len);
-    const uint8_t *piece = buffer(lent) + from;
-    lsh_outcome right = right_append(r, piece, piece_len);
-    take_copy(lent);
-    lsh_outcome outcome = lsh_append(*r, piece, piece_len);
-    check_outcome(&outcome, &right, said);
-    append_to(place_for_answer(&place), *r, piece, piece_len);
-    check_place(&right, said);
-    check(kept_except(lent, 0), "%s writes to the piece or around it", said);
-    return outcome.next;
-}
-
-static lsh_record rewind_order(const lsh_record *r, uint64_t keep, struct guarded *lent, size_t from, size_t h_len)
-{
-    char said[200];
-    SAY(said, "lsh_rewind", r, "keep = %" PRIu64 ", %zu bytes", keep, h_len);
-    const uint8_t *h = buffer(lent) + from;
-    lsh_outcome right = right_rewind(r, keep, h, h_len);
-    take_copy(lent);
-    lsh_outcome outcome = lsh_rewind(*r, keep, h, h_len);
-    check_outcome(&outcome, &right, said);
-    rewind_to(place_for_answer(&place), *r, keep, h, h_len);
-    check_place(&right, said);
-    check(kept_except(lent, 0), "%s writes to the bytes handed back or around them", said);
-    return outcome.next;
-}
-
-static void close_order(const lsh_record *r, uint8_t last, uint64_t e, struct guarded *output, size_t output_len)
-{
-    char said[200];
-    SAY(said, "lsh_close", r, "last = %u, e = %" PRIu64 ", output of %zu bytes", last, e, output_len);
-    uint32_t right = right_close_answer(r, last, e, output_len);
-    take_copy(output);
-    uint32_t answer = lsh_close(*r, last, e, buffer(output), output_len);
-    check(answer == right, "%s answers %" PRIu32 ", not %" PRIu32, said, answer, right);
-    check(kept_except(output, right == LSH_ACCEPTED ? LSH_RECEIPT_BYTES : 0), "%s writes %s", said,
-          right == LSH_ACCEPTED ? "outside the receipt" : "to the output or around it");
-    if (right == LSH_ACCEPTED) {
-        uint8_t receipt[LSH_RECEIPT_BYTES];
-        right_receipt(r, last, e, receipt);
-        check(memcmp(buffer(output), receipt, sizeof receipt) == 0, "%s writes another receipt", said);
-    }
 }
 
 /* ---- what is tried: orders ---- */
@@ -105,7 +55,7 @@ static void close_as_whole(const lsh_record *r, struct guarded *lent)
 static lsh_record cut(const lsh_record *r, struct guarded *lent, size_t length)
 {
     size_t keep = length % LSH_BLOCK_BYTES(r->w);
-    return rewind_order(r, keep, lent, length - keep, r->total - (length - keep));
+    return rewind_order(r, keep, lent, length - keep, r->total - (length - keep)).next;
 }
 
 /* An order's bytes stand at the front of a buffer; a random piece is appended, or the order is cut anywhere. */
@@ -119,7 +69,7 @@ static void try_order(uint64_t w)
         if (below(3) != 0) {
             size_t room = LARGEST - total;
             size_t piece_len = below((room < 3 * LSH_BLOCK_BYTES(w) ? room : 3 * LSH_BLOCK_BYTES(w)) + 1);
-            r = append(&r, &lent, total, piece_len);
+            r = append(&r, &lent, total, piece_len).next;
             check(r.total == total + piece_len, "an order of %zu bytes and %zu more has %" PRIu64, total, piece_len, r.total);
         } else {
             size_t length = below(total + 1);
@@ -279,7 +229,7 @@ static void try_rewind_lengths(uint64_t w)
     fill(&lent);
     const lsh_record opened = right_open(w, 8 * w).next;
     for (size_t total = 0; total <= 2 * LSH_BLOCK_BYTES(w) + 2; total += 1 + below(20)) {
-        lsh_record r = append(&opened, &lent, 0, total);
+        lsh_record r = append(&opened, &lent, 0, total).next;
         for (size_t k = 0; k < COUNT(keeps); k++) {
             for (size_t h_len = 0; h_len <= total; h_len++) {
                 rewind_order(&r, keeps[k], &lent, total - h_len, h_len);
@@ -298,7 +248,7 @@ static void try_changed_bytes(uint64_t w)
     fill(&lent);
     const lsh_record opened = right_open(w, 8 * w).next;
     size_t total = 2 * LSH_BLOCK_BYTES(w) + 44;
-    lsh_record r = append(&opened, &lent, 0, total);
+    lsh_record r = append(&opened, &lent, 0, total).next;
     for (size_t i = 0; i < total; i++) {
         uint8_t bit = (uint8_t)(1u << below(8));
         buffer(&lent)[i] ^= bit;

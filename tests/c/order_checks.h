@@ -1,4 +1,5 @@
-/* What the programs share that try the calls on an order: checks of an outcome, and records to try. checks.h comes before it. */
+/* What the programs share that try the calls on an order: checks of an outcome, calls that are made and checked, and records to try. checks.h
+ * comes before it. */
 #ifndef ORDER_CHECKS_H
 #define ORDER_CHECKS_H
 
@@ -36,17 +37,95 @@ static void check_place(const lsh_outcome *right, const char *said)
     snprintf(said, sizeof said, call "(w = %" PRIu64 ", n = %" PRIu64 ", total = %" PRIu64 ", " format ")", (r)->w, (r)->n, (r)->total, \
              __VA_ARGS__)
 
+/* ---- calls ---- */
+
+/* The calls once more, as the archive has them: with the address of their answer. */
+void *append_to(void *answer, lsh_record r, const uint8_t *piece, size_t piece_len) __asm__("lsh_append");
+void *rewind_to(void *answer, lsh_record r, uint64_t keep, const uint8_t *h, size_t h_len) __asm__("lsh_rewind");
+
+/* A piece may be said to be longer than its memory if the call has to be refused: a refused call reads nothing of it. */
+static inline lsh_outcome append(const lsh_record *r, struct guarded *lent, size_t from, size_t piece_len)
+{
+    char said[200];
+    SAY(said, "lsh_append", r, "%zu bytes", piece_len);
+    const uint8_t *piece = buffer(lent) + from;
+    lsh_outcome right = right_append(r, piece, piece_len);
+    take_copy(lent);
+    lsh_outcome outcome = lsh_append(*r, piece, piece_len);
+    check_outcome(&outcome, &right, said);
+    append_to(place_for_answer(&place), *r, piece, piece_len);
+    check_place(&right, said);
+    check(kept_except(lent, 0), "%s writes to the piece or around it", said);
+    return outcome;
+}
+
+static inline lsh_outcome rewind_order(const lsh_record *r, uint64_t keep, struct guarded *lent, size_t from, size_t h_len)
+{
+    char said[200];
+    SAY(said, "lsh_rewind", r, "keep = %" PRIu64 ", %zu bytes", keep, h_len);
+    const uint8_t *h = buffer(lent) + from;
+    lsh_outcome right = right_rewind(r, keep, h, h_len);
+    take_copy(lent);
+    lsh_outcome outcome = lsh_rewind(*r, keep, h, h_len);
+    check_outcome(&outcome, &right, said);
+    rewind_to(place_for_answer(&place), *r, keep, h, h_len);
+    check_place(&right, said);
+    check(kept_except(lent, 0), "%s writes to the bytes handed back or around them", said);
+    return outcome;
+}
+
+static inline void close_order(const lsh_record *r, uint8_t last, uint64_t e, struct guarded *output, size_t output_len)
+{
+    char said[200];
+    SAY(said, "lsh_close", r, "last = %u, e = %" PRIu64 ", output of %zu bytes", last, e, output_len);
+    uint32_t right = right_close_answer(r, last, e, output_len);
+    take_copy(output);
+    uint32_t answer = lsh_close(*r, last, e, buffer(output), output_len);
+    check(answer == right, "%s answers %" PRIu32 ", not %" PRIu32, said, answer, right);
+    check(kept_except(output, right == LSH_ACCEPTED ? LSH_RECEIPT_BYTES : 0), "%s writes %s", said,
+          right == LSH_ACCEPTED ? "outside the receipt" : "to the output or around it");
+    if (right == LSH_ACCEPTED) {
+        uint8_t receipt[LSH_RECEIPT_BYTES];
+        right_receipt(r, last, e, receipt);
+        check(memcmp(buffer(output), receipt, sizeof receipt) == 0, "%s writes another receipt", said);
+    }
+}
+
 /* ---- records ---- */
 
-/* A sound record with this total, of no order most likely. */
+static void put_random_chain(uint64_t w, uint64_t *chain)
+{
+    for (size_t i = 0; i < 16; i++) {
+        chain[i] = w == 32 ? next_random() >> 32 : next_random();
+    }
+}
+
+static void put_random_bytes(uint8_t *bytes, size_t count)
+{
+    for (size_t i = 0; i < count; i++) {
+        bytes[i] = (uint8_t)next_random();
+    }
+}
+
+/* A sound record with this total, of no order most likely, and no split rewind begun. */
 static lsh_record sound_record(uint64_t w, uint64_t total)
 {
     lsh_record r = {.w = w, .n = 1 + below(8 * w), .total = total};
-    for (size_t i = 0; i < 16; i++) {
-        r.chain[i] = w == 32 ? next_random() >> 32 : next_random();
-    }
-    for (size_t i = 0; i < r.total % LSH_BLOCK_BYTES(w); i++) {
-        r.held[i] = (uint8_t)next_random();
+    put_random_chain(w, r.chain);
+    put_random_bytes(r.held, r.total % LSH_BLOCK_BYTES(w));
+    return r;
+}
+
+/* The same with a split rewind begun and so many blocks handed back. */
+static inline lsh_record begun_record(uint64_t w, uint64_t total, uint64_t blocks)
+{
+    lsh_record r = sound_record(w, total);
+    r.mark = 1;
+    r.blocks = blocks;
+    memcpy(r.second, r.chain, sizeof r.second);
+    if (blocks != 0) {
+        put_random_chain(w, r.second);
+        put_random_bytes(r.back, LSH_BLOCK_BYTES(w));
     }
     return r;
 }

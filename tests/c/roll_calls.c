@@ -10,144 +10,24 @@
 
 #include "lsh_kiosk.h"
 
-/* Bytes of an order from one checkpoint to the next. */
-#define INTERVAL(w) ((size_t)LSH_CHECKPOINT_BLOCKS * LSH_BLOCK_BYTES(w))
-
 #define PROGRAM "roll_calls"
 #define LARGEST (3 * INTERVAL(64) + 2 * LSH_BLOCK_BYTES(64))
 #include "checks.h"
 #include "order_checks.h"
-#include "roll_model.h"
+#include "roll_checks.h"
 
 #define ORDERS 15   /* random orders at each word size and number of slots */
 #define CALLS 30    /* in each order */
 #define RECORDS 150 /* random records at each word size, each with a random roll */
 
-/* The buffers, which are large and therefore not on the stack: the bytes of an order, from which pieces are lent and bytes handed back, and
- * the roll. */
-static struct guarded lent, roll;
-
-/* ---- calls ---- */
-
-/* The calls once more, as the archive has them: with the address of their answer. */
-void *append_to(void *answer, lsh_record r, const uint8_t *piece, size_t piece_len, uint8_t *roll, size_t roll_len)
-    __asm__("lsh_append_roll");
-void *rewind_to(void *answer, lsh_record r, uint64_t keep, const uint8_t *h, size_t h_len, uint8_t *roll, size_t roll_len)
-    __asm__("lsh_rewind_roll");
-
-/* The roll as it was before the last call, which is in its copy. */
-static const uint8_t *roll_before(void)
-{
-    return roll.copy + roll.start;
-}
-
-/* The roll after a call, against the right one; and the bytes around it. */
-static void check_roll(const uint8_t *right, size_t roll_len, const char *said)
-{
-    check(memcmp(buffer(&roll), right, roll_len) == 0, "%s leaves another roll", said);
-    check(kept_except(&roll, roll_len), "%s writes around the roll", said);
-}
-
-static void check_appended(const lsh_record *r, const uint8_t *piece, size_t piece_len, size_t roll_len, uint32_t number, const char *said)
-{
-    if (number != LSH_ACCEPTED) {
-        check(kept_except(&roll, 0), "%s writes to the roll or around it", said);
-        return;
-    }
-    static uint8_t right[LARGEST];
-    memcpy(right, roll_before(), roll_len);
-    bool laid = lay_due(r, piece, piece_len, right, buffer(&roll), roll_len);
-    check(laid, "%s leaves a roll with other links", said);
-    if (laid) {
-        check_roll(right, roll_len, said);
-    }
-}
-
-static void check_rewound(const lsh_outcome *outcome, size_t roll_len, const char *said)
-{
-    if (outcome->number != LSH_ACCEPTED) {
-        check(kept_except(&roll, 0), "%s writes to the roll or around it", said);
-        return;
-    }
-    static uint8_t right[LARGEST];
-    memcpy(right, roll_before(), roll_len);
-    unlink_past(&outcome->next, right, roll_len);
-    check_roll(right, roll_len, said);
-}
-
-/* A piece or a roll may be said to be longer than its memory if the call has to be refused for that: a refused call reads nothing of it. */
-static lsh_record append(const lsh_record *r, size_t from, size_t piece_len, size_t roll_len)
-{
-    char said[200];
-    SAY(said, "lsh_append_roll", r, "%zu bytes, roll of %zu bytes", piece_len, roll_len);
-    const uint8_t *piece = buffer(&lent) + from;
-    take_copy(&lent);
-    take_copy(&roll);
-    lsh_outcome right = right_append_roll(r, piece, piece_len, buffer(&roll), roll_len);
-    lsh_outcome outcome = lsh_append_roll(*r, piece, piece_len, buffer(&roll), roll_len);
-    check_outcome(&outcome, &right, said);
-    check_appended(r, piece, piece_len, roll_len, right.number, said);
-    put_back(&roll);
-    append_to(place_for_answer(&place), *r, piece, piece_len, buffer(&roll), roll_len);
-    check_place(&right, said);
-    check_appended(r, piece, piece_len, roll_len, right.number, said);
-    check(kept_except(&lent, 0), "%s writes to the piece or around it", said);
-    return outcome.next;
-}
-
-static lsh_record rewind_order(const lsh_record *r, uint64_t keep, size_t from, size_t h_len, size_t roll_len)
-{
-    char said[200];
-    SAY(said, "lsh_rewind_roll", r, "keep = %" PRIu64 ", %zu bytes, roll of %zu bytes", keep, h_len, roll_len);
-    const uint8_t *h = buffer(&lent) + from;
-    take_copy(&lent);
-    take_copy(&roll);
-    lsh_outcome right = right_rewind_roll(r, keep, h, h_len, buffer(&roll), roll_len);
-    lsh_outcome outcome = lsh_rewind_roll(*r, keep, h, h_len, buffer(&roll), roll_len);
-    check_outcome(&outcome, &right, said);
-    check_rewound(&right, roll_len, said);
-    put_back(&roll);
-    rewind_to(place_for_answer(&place), *r, keep, h, h_len, buffer(&roll), roll_len);
-    check_place(&right, said);
-    check_rewound(&right, roll_len, said);
-    check(kept_except(&lent, 0), "%s writes to the bytes handed back or around them", said);
-    return outcome.next;
-}
+/* ---- what is tried: orders ---- */
 
 /* Cuts an order, whose bytes stand at the front of the buffer: h from the block on that the cut lies in. */
 static lsh_record cut(const lsh_record *r, size_t length, size_t roll_len)
 {
     size_t keep = length % LSH_BLOCK_BYTES(r->w);
-    return rewind_order(r, keep, length - keep, r->total - (length - keep), roll_len);
+    return rewind_roll(r, keep, length - keep, r->total - (length - keep), roll_len).next;
 }
-
-/* ---- rolls ---- */
-
-static void make_new_roll(size_t roll_len)
-{
-    fill(&roll);
-    memset(buffer(&roll), 0, roll_len);
-}
-
-/* A roll with so many slots linked, in any order; all other bytes are random, those of the other slots too. */
-static void make_linked_roll(uint64_t w, size_t slots, size_t links)
-{
-    fill(&roll);
-    uint16_t left[LSH_MOST_SLOTS];
-    for (size_t i = 0; i < slots; i++) {
-        left[i] = (uint16_t)(i + 1);
-    }
-    size_t last = 0;
-    for (size_t i = 0; i < links; i++) {
-        size_t chosen = i + below(slots - i), slot = left[chosen];
-        left[chosen] = left[i];
-        put_index(w, buffer(&roll), last, slot);
-        last = slot;
-    }
-    put_index(w, buffer(&roll), last, 0);
-}
-
-/* ---- what is tried: orders ---- */
 
 /* The roll shows so many checkpoints of the order, with the chains that lsh_append reaches without a roll. */
 static void check_shown(uint64_t w, size_t roll_len, size_t links)
@@ -157,7 +37,7 @@ static void check_shown(uint64_t w, size_t roll_len, size_t links)
     for (size_t k = 1; k <= way.count; k++) {
         lsh_outcome reached = lsh_append(lsh_open(w, 8 * w).next, buffer(&lent), k * INTERVAL(w));
         uint8_t chain[LSH_CHAIN_BYTES(64)];
-        store_chain(&reached.next, chain);
+        store_chain(w, reached.next.chain, chain);
         check(memcmp(buffer(&roll) + LSH_CHAIN_PLACE(w, way.slots[k]), chain, LSH_CHAIN_BYTES(w)) == 0,
               "checkpoint %zu of the roll has another chain, w = %" PRIu64, k, w);
     }
@@ -166,7 +46,7 @@ static void check_shown(uint64_t w, size_t roll_len, size_t links)
 /* The order is appended to, or cut, until it has this length, and then its roll shows so many checkpoints. */
 static void go_to(lsh_record *r, size_t length, size_t roll_len, size_t links)
 {
-    *r = length > r->total ? append(r, r->total, length - r->total, roll_len) : cut(r, length, roll_len);
+    *r = length > r->total ? append_roll(r, r->total, length - r->total, roll_len).next : cut(r, length, roll_len);
     check(r->total == length, "an order has %" PRIu64 " bytes, not %zu", r->total, length);
     check_shown(r->w, roll_len, links);
 }
@@ -183,8 +63,8 @@ static void try_checkpoints(uint64_t w)
     go_to(&r, 2 * interval - 1, roll_len, 1);
     go_to(&r, 2 * interval + 44, roll_len, 2);
     go_to(&r, 3 * interval - 1, roll_len, 2);
-    append(&r, r.total, 1, roll_len);
-    append(&r, r.total, 1 + LSH_BLOCK_BYTES(w), roll_len);
+    append_roll(&r, r.total, 1, roll_len);
+    append_roll(&r, r.total, 1 + LSH_BLOCK_BYTES(w), roll_len);
     check_shown(w, roll_len, 2);
     go_to(&r, 2 * interval, roll_len, 2);
     go_to(&r, 2 * interval - 1, roll_len, 1);
@@ -216,7 +96,7 @@ static void try_order(uint64_t w, size_t slots)
     lsh_record r = lsh_open(w, 1 + below(8 * w)).next;
     for (int i = 0; i < CALLS; i++) {
         size_t length = random_length(w);
-        r = length > r.total ? append(&r, r.total, length - r.total, roll_len) : cut(&r, length, roll_len);
+        r = length > r.total ? append_roll(&r, r.total, length - r.total, roll_len).next : cut(&r, length, roll_len);
     }
 }
 
@@ -232,14 +112,14 @@ static void try_linked_roll(uint64_t w)
 
     lsh_record r = sound_record(w, links * INTERVAL(w) + below(INTERVAL(w)));
     make_linked_roll(w, slots, links);
-    append(&r, 0, random_length(w), roll_len);
+    append_roll(&r, 0, random_length(w), roll_len);
 
     size_t held = r.total % LSH_BLOCK_BYTES(w), most = r.total < LARGEST ? r.total : LARGEST;
     size_t h_len = (most - held) / LSH_BLOCK_BYTES(w) * LSH_BLOCK_BYTES(w) + held;
     h_len -= below((h_len - held) / LSH_BLOCK_BYTES(w) + 1) * LSH_BLOCK_BYTES(w);
     memcpy(buffer(&lent) + h_len - held, r.held, held);
     make_linked_roll(w, slots, links);
-    rewind_order(&r, below((h_len < LSH_BLOCK_BYTES(w) ? h_len : LSH_BLOCK_BYTES(w) - 1) + 1), 0, h_len, roll_len);
+    rewind_roll(&r, below((h_len < LSH_BLOCK_BYTES(w) ? h_len : LSH_BLOCK_BYTES(w) - 1) + 1), 0, h_len, roll_len);
 }
 
 /* The most slots, two of them or fewer not linked, and pieces that end about the next checkpoints: a piece is taken as long as each
@@ -253,7 +133,7 @@ static void try_most_slots(uint64_t w)
         for (size_t k = 1; k <= 4; k++) {
             for (size_t length = k * INTERVAL(w) - 2; length <= k * INTERVAL(w); length++) {
                 make_linked_roll(w, LSH_MOST_SLOTS, links);
-                append(&r, 0, length, roll_len);
+                append_roll(&r, 0, length, roll_len);
             }
         }
     }
@@ -270,8 +150,8 @@ static const size_t huge_lengths[] = {
 static void try_roll_length(uint64_t w, size_t roll_len)
 {
     const lsh_record opened = right_open(w, 8 * w).next;
-    append(&opened, 0, 1, roll_len);
-    rewind_order(&opened, 0, 0, 0, roll_len);
+    append_roll(&opened, 0, 1, roll_len);
+    rewind_roll(&opened, 0, 0, 0, roll_len);
 }
 
 static void try_roll_lengths(uint64_t w)
@@ -294,8 +174,8 @@ static void try_record_of(uint64_t w, uint64_t links, size_t roll_len)
 {
     lsh_record r = sound_record(w, links * INTERVAL(w) + 1);
     memcpy(buffer(&lent), r.held, 1);
-    append(&r, 0, 0, roll_len);
-    rewind_order(&r, 1, 0, 1, roll_len);
+    append_roll(&r, 0, 0, roll_len);
+    rewind_roll(&r, 1, 0, 1, roll_len);
 }
 
 /* Each index on the way from the head changed to each slot, which makes the roll shorter, another one, or a cycle of each length; and to
@@ -367,7 +247,7 @@ static void try_pieces(const lsh_record *r, size_t roll_len)
         SIZE_MAX - r->total + 1, SIZE_MAX,
     };
     for (size_t i = 0; i < COUNT(tried); i++) {
-        append(r, 0, tried[i], roll_len);
+        append_roll(r, 0, tried[i], roll_len);
         put_back(&roll);
     }
 }
@@ -383,11 +263,11 @@ static void try_hand_backs(const lsh_record *r, size_t roll_len)
                 if (held && tried[i] > 0) {
                     buffer(&lent)[tried[i] - 1] = r->held[0];
                 }
-                rewind_order(r, keeps[k], 0, tried[i], roll_len);
+                rewind_roll(r, keeps[k], 0, tried[i], roll_len);
                 put_back(&roll);
             }
         }
-        rewind_order(r, keeps[k], 0, SIZE_MAX, roll_len);
+        rewind_roll(r, keeps[k], 0, SIZE_MAX, roll_len);
     }
 }
 
@@ -431,11 +311,11 @@ static void try_changed_bytes(uint64_t w)
     fill(&lent);
     make_new_roll(roll_len);
     const lsh_record opened = right_open(w, 8 * w).next;
-    lsh_record r = append(&opened, 0, INTERVAL(w) + 44, roll_len);
+    lsh_record r = append_roll(&opened, 0, INTERVAL(w) + 44, roll_len).next;
     for (size_t i = 0; i < r.total; i += 1 + below(LSH_BLOCK_BYTES(w))) {
         uint8_t bit = (uint8_t)(1u << below(8));
         buffer(&lent)[i] ^= bit;
-        rewind_order(&r, 0, 0, r.total, roll_len);
+        rewind_roll(&r, 0, 0, r.total, roll_len);
         buffer(&lent)[i] ^= bit;
     }
     cut(&r, 0, roll_len);

@@ -87,6 +87,9 @@ static lsh_outcome right_append_roll(const lsh_record *r, const uint8_t *piece, 
     if (!is_sound(r)) {
         return refused(LSH_UNSOUND_RECORD, r);
     }
+    if (r->mark != 0) {
+        return refused(LSH_OUT_OF_TURN, r);
+    }
     if (!is_roll_of(r, roll, roll_len)) {
         return refused(LSH_BAD_ROLL, r);
     }
@@ -103,6 +106,9 @@ static lsh_outcome right_rewind_roll(const lsh_record *r, uint64_t keep, const u
 {
     if (!is_sound(r)) {
         return refused(LSH_UNSOUND_RECORD, r);
+    }
+    if (r->mark != 0) {
+        return refused(LSH_OUT_OF_TURN, r);
     }
     if (!is_roll_of(r, roll, roll_len)) {
         return refused(LSH_BAD_ROLL, r);
@@ -128,12 +134,13 @@ static bool lay_due(const lsh_record *r, const uint8_t *piece, size_t piece_len,
         reached = right_append(&reached, piece + done, end - reached.total).next;
         put_index(r->w, roll, way.slots[k - 1], slot);
         put_index(r->w, roll, slot, 0);
-        store_chain(&reached, roll + LSH_CHAIN_PLACE(r->w, slot));
+        store_chain(r->w, reached.chain, roll + LSH_CHAIN_PLACE(r->w, slot));
     }
     return true;
 }
 
-/* Makes the roll from before an accepted Rewind the right one for after it, where `next` is the record that follows. */
+/* Makes the roll from before an accepted Rewind, or end of a split one, the right one for after it, where `next` is the record that
+ * follows. */
 static void unlink_past(const lsh_record *next, uint8_t *roll, size_t roll_len)
 {
     struct way way = walk(next->w, roll, roll_len);

@@ -32,7 +32,7 @@ answered r size count chain held =
     record {
       number = 0;
       count = count;
-      next = record { w = r .w; n = r .n; total = r .total + size; chain = chain; held = held };
+      next = record { w = r .w; n = r .n; total = r .total + size; chain = chain; held = held; split = r .split };
     }
 
 -- one block, and then the blocks of what follows it

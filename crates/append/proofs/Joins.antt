@@ -45,7 +45,7 @@ module _ (r : Record) (word : isWordSize (r .w) ≡ true) (long : length (r .hel
 
   pub append-joins : appended (appended r p) q ≡ appended r (p ++ q)
   unfolding appended
-  append-joins = λ i. record { w = r .w; n = r .n; total = total-joins i; chain = chain-joins i; held = held-joins i }
+  append-joins = λ i. record { w = r .w; n = r .n; total = total-joins i; chain = chain-joins i; held = held-joins i; split = r .split }
 
 -- the record of the bytes of one piece
 record-piece : (w n : ℕ) (m : List ℕ) → appended (opened w n) m ≡ recordOf w n m

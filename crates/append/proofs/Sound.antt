@@ -1,11 +1,10 @@
 -- The record after a piece within the limit is sound.
 -- Assumes nothing.
 use mathlib.Core.Path.{_≡_, sym}
-use mathlib.Core.Bool.{true}
+use mathlib.Core.Bool.{true, false}
 use mathlib.Core.List.{List, _++_}
 use Prim.Native.Nat.{ℕ, _+_, _≤_}
 use lib.ListN.{length}
-use borrow.Author.Tests.{le-leb}
 use Rattle.lsh.specs.WordSize.{WordSize, sizeOf}
 use Rattle.lsh.specs.Block.{Chain}
 use Rattle.lsh.specs.Padding.{blocksOf, restOf}
@@ -13,8 +12,9 @@ use Rattle.lsh.proofs.Figures.{amounts}
 use Rattle.lsh.proofs.Blocks.{forwards-chain}
 use Rattle.runs.specs.Limits.{longestBlock, limit}
 use Rattle.record.specs.declared.Record.{Record}
-use Rattle.record.specs.Record.{heldOf, heldBytes, sound}
-use Rattle.record.proofs.Sound.{Sound, sounds, chain-is, chain-below}
+use Rattle.record.specs.Record.{heldOf, heldBytes, sound, isBegun}
+use Rattle.record.proofs.Sound.{Sound, sounds, is-sound, chain-is, chain-below}
+use Rattle.record.proofs.Begun.{none-sound}
 use Rattle.record.proofs.Strings.{filled-zero}
 use Rattle.append.specs.Append.{appended}
 use Rattle.append.proofs.Held.{rest-length}
@@ -31,8 +31,15 @@ module _ (r : Record) (ok : sound r ≡ true) (words : length (r .chain) ≡ 16)
   appended-chain =
       forwards-chain Z (amounts (r .w)) (blocksOf Z (heldBytes r ++ p)) (r .chain) (chain-is (r .w) (r .chain) (is .word) words (is .below))
 
-  pub appended-sound : r .total + length p ≤ limit → sound (appended r p) ≡ true
-  unfolding sound appended heldOf
-  appended-sound within =
-      rw (is .word, is .digestLength, le-leb (r .total + length p) limit within, chain-below (r .w) (appended r p .chain) (is .word) appended-chain)
-      (filled-zero longestBlock (restOf Z (heldBytes r ++ p)) _ (sym (rest-length r long p)))
+  pub appended-sound : isBegun r ≡ false → r .total + length p ≤ limit → sound (appended r p) ≡ true
+  unfolding appended heldOf
+  appended-sound idle within =
+      is-sound (appended r p)
+      (record {
+        word = is .word;
+        digestLength = is .digestLength;
+        few = within;
+        below = chain-below (r .w) (appended r p .chain) (is .word) appended-chain;
+        zero = filled-zero longestBlock (restOf Z (heldBytes r ++ p)) _ (sym (rest-length r long p));
+        split = none-sound r ok idle (r .total + length p) (appended r p .chain);
+      })

@@ -11,7 +11,7 @@ use Rattle.lsh.specs.Padding.{blocksOf, restOf}
 use Rattle.runs.specs.Limits.{limit}
 use Rattle.record.specs.declared.Record.{Record}
 use Rattle.record.specs.declared.Outcome.{Outcome}
-use Rattle.record.specs.Record.{heldOf, heldBytes, sound, refused}
+use Rattle.record.specs.Record.{heldOf, heldBytes, sound, isBegun, refused}
 
 -- the record after a piece: the bytes held and the piece are one string, its whole blocks are run and its rest is held
 unfoldable pub appended : Record → List ℕ → Record
@@ -22,6 +22,7 @@ appended r piece =
       total = r .total + length piece;
       chain = forwards (sizeOf (r .w)) (blocksOf (sizeOf (r .w)) (heldBytes r ++ piece)) (r .chain);
       held = heldOf (restOf (sizeOf (r .w)) (heldBytes r ++ piece));
+      split = r .split;
     }
 
 -- an accepted Append: its count is how many more whole blocks the order has
@@ -33,9 +34,10 @@ appendAccepted r piece =
       next = appended r piece;
     }
 
--- Append: 3 if the record is not sound, then 5 if the order would pass the limit, else 0
+-- Append: 3 if the record is not sound, then 17 if a split rewind is begun, 5 if the order would pass the limit, else 0
 unfoldable pub appendCall : Record → List ℕ → Outcome
 appendCall r piece =
     cond (not (sound r)) (refused 3 r)
+    (cond (isBegun r) (refused 17 r)
     (cond (ltb limit (r .total + length piece)) (refused 5 r)
-    (appendAccepted r piece))
+    (appendAccepted r piece)))

@@ -27,6 +27,9 @@ pub fn append(r: Record, piece: &[u8]) -> Outcome
     if !record::is_sound(r) {
         return record::refused(3, r);
     }
+    if record::is_begun(r) {
+        return record::refused(17, r);
+    }
     let total = r.total;
     if runs::LIMIT as u64 - total < piece.len() as u64 {
         return record::refused(5, r);
@@ -52,92 +55,65 @@ pub fn accepted(r: Record, piece: &[u8]) -> Outcome
 }
 
 // To a record that holds no bytes.
-fn append_even(r: Record, piece: &[u8]) -> Outcome
+fn append_even(mut r: Record, piece: &[u8]) -> Outcome
     requires { ⌜ (sound r ≡ true) × (r .total + length (now piece) ≤ limit) × (heldLength (r .w) (r .total) ≡ 0) ⌝ }
     ensures { λ o. ⌜ o ≡ appendAccepted r (now (piece .entry)) ⌝ }
 {
-    let w = r.w;
-    let n = r.n;
-    let total = r.total;
     let chain = r.chain;
-    let t = take_whole(w, chain, piece);
-    let count = t.count;
+    let t = take_whole(r.w, chain, piece);
     let c = t.chain;
     let h = t.held;
-    let sum = total + piece.len() as u64;
-    let next = Record {
-        w: w,
-        n: n,
-        total: sum,
-        chain: c,
-        held: h,
-    };
+    r.total += piece.len() as u64;
+    r.chain = c;
+    r.held = h;
     Outcome {
         number: 0,
-        count: count,
-        next: next,
+        count: t.count,
+        next: r,
     }
 }
 
 // A piece that does not fill the block begun.
-fn append_short(r: Record, piece: &[u8]) -> Outcome
+fn append_short(mut r: Record, piece: &[u8]) -> Outcome
     requires { ⌜ (sound r ≡ true) × (r .total + length (now piece) ≤ limit) × (heldLength (r .w) (r .total) + length (now piece) < blockBytes (sizeOf (r .w))) ⌝ }
     ensures { λ o. ⌜ o ≡ appendAccepted r (now (piece .entry)) ⌝ }
 {
-    let w = r.w;
-    let n = r.n;
-    let total = r.total;
-    let chain = r.chain;
     let held = r.held;
-    let at = record::held_length(w, total);
+    let at = record::held_length(r.w, r.total);
     let joined = record::put(held, at, piece);
-    let sum = total + piece.len() as u64;
-    let next = Record {
-        w: w,
-        n: n,
-        total: sum,
-        chain: chain,
-        held: joined,
-    };
+    r.total += piece.len() as u64;
+    r.held = joined;
     Outcome {
         number: 0,
         count: 0,
-        next: next,
+        next: r,
     }
 }
 
 // A piece that fills the block begun: this block is run first, and the blocks after it straight from the piece.
-fn append_long(r: Record, piece: &[u8]) -> Outcome
+fn append_long(mut r: Record, piece: &[u8]) -> Outcome
     requires { ⌜ (sound r ≡ true) × (r .total + length (now piece) ≤ limit) × (blockBytes (sizeOf (r .w)) ≤ heldLength (r .w) (r .total) + length (now piece)) ⌝ }
     ensures { λ o. ⌜ o ≡ appendAccepted r (now (piece .entry)) ⌝ }
 {
     let w = r.w;
-    let n = r.n;
-    let total = r.total;
     let chain = r.chain;
     let held = r.held;
     let size = runs::block_bytes(w);
-    let at = record::held_length(w, total);
+    let at = record::held_length(w, r.total);
     let room = size - at;
     let first = record::put(held, at, &piece[..room]);
     let begun = runs::forward(w, chain, &first[..size]);
     let filled = begun.chain;
     let t = take_whole(w, filled, &piece[room..]);
-    let count = t.count + 1;
     let c = t.chain;
     let h = t.held;
-    let sum = total + piece.len() as u64;
-    let next = Record {
-        w: w,
-        n: n,
-        total: sum,
-        chain: c,
-        held: h,
-    };
+    r.total += piece.len() as u64;
+    r.chain = c;
+    r.held = h;
     Outcome {
         number: 0,
-        count: count,
-        next: next,
+        count: t.count + 1,
+        next: r,
     }
 }
 

@@ -12,7 +12,7 @@ use borrow.Author.Tests.{eq-eqb, ne-eqb, ltb-false}
 use Rattle.lsh.specs.WordSize.{sizeOf, blockBytes}
 use Rattle.runs.specs.Limits.{limit}
 use Rattle.record.specs.declared.Record.{Record}
-use Rattle.record.specs.Record.{sound, refused}
+use Rattle.record.specs.Record.{sound, isBegun, refused}
 use Rattle.append.specs.Append.{appendAccepted}
 use Rattle.checkpoints.specs.Slots.{slotCount}
 use Rattle.checkpoints.specs.Roll.{links, checkpoints, isRollOf}
@@ -24,6 +24,7 @@ use Rattle.append_roll.specs.AppendRoll.{due, isFull, appendRollAnswer, 
 -- a call that is accepted passed every test
 pub record Accepted (r : Record) (size : ℕ) (roll : List ℕ) : Type 0 where
   pub taken : sound r ≡ true
+  pub idle : isBegun r ≡ false
   pub rollOf : isRollOf r roll ≡ true
   pub within : r .total + size ≤ limit
   pub room : length (links (sizeOf (r .w)) roll) + due r size ≤ slotCount (sizeOf (r .w)) (length roll)
@@ -32,21 +33,23 @@ pub accepted : (r : Record) (size : ℕ) (roll : List ℕ) → appendRollAnswer 
 unfolding appendRollAnswer isFull
 accepted r size roll e =
     let z = sizeOf (r .w) in
-    let p = tests (sound r) (isRollOf r roll) (ltb limit (r .total + size)) (ltb (slotCount z (length roll)) (length (links z roll) + due r size)) e in
+    let p = tests (sound r) (isBegun r) (isRollOf r roll) (ltb limit (r .total + size)) (ltb (slotCount z (length roll)) (length (links z roll) + due r size)) e in
     record {
       taken = p .0;
-      rollOf = p .1;
-      within = ltb-false limit (r .total + size) (p .2);
-      room = ltb-false (slotCount z (length roll)) (length (links z roll) + due r size) (p .3);
+      idle = p .1;
+      rollOf = p .2;
+      within = ltb-false limit (r .total + size) (p .3);
+      room = ltb-false (slotCount z (length roll)) (length (links z roll) + due r size) (p .4);
     }
   where
-    tests : (a b c d : Bool) → _≡_ {A = ℕ} (cond (not a) 3 (cond (not b) 15 (cond c 5 (cond d 16 0)))) 0
-        → (a ≡ true) × (b ≡ true) × (c ≡ false) × (d ≡ false)
-    tests true true false false e = (refl, refl, refl, refl)
-    tests true true false true e = absurd (omega arith)
-    tests true true true d e = absurd (omega arith)
-    tests true false c d e = absurd (omega arith)
-    tests false b c d e = absurd (omega arith)
+    tests : (a i b c d : Bool) → _≡_ {A = ℕ} (cond (not a) 3 (cond i 17 (cond (not b) 15 (cond c 5 (cond d 16 0))))) 0
+        → (a ≡ true) × (i ≡ false) × (b ≡ true) × (c ≡ false) × (d ≡ false)
+    tests true false true false false e = (refl, refl, refl, refl, refl)
+    tests true false true false true e = absurd (omega arith)
+    tests true false true true d e = absurd (omega arith)
+    tests true false false c d e = absurd (omega arith)
+    tests true true b c d e = absurd (omega arith)
+    tests false i b c d e = absurd (omega arith)
 
 -- the links of a roll of the record and the checkpoints due are the checkpoints of the order with the piece
 pub full-is : (r : Record) (size : ℕ) (roll : List ℕ) → isRollOf r roll ≡ true

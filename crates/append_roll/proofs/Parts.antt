@@ -110,7 +110,7 @@ module _ (r : Record) (piece : List ℕ) where
           ∙ mul-mod-left (k * spacing) B)
 
       pub order-there : (chain : List ℕ) → chain ≡ so-far at .chain
-          → _≡_ {A = Record} (record { w = r .w; n = r .n; total = r .total + at; chain = chain; held = heldOf [] }) (so-far at)
+          → _≡_ {A = Record} (record { w = r .w; n = r .n; total = r .total + at; chain = chain; held = heldOf []; split = r .split }) (so-far at)
       unfolding appended
       order-there chain is =
           λ i. record {
@@ -119,6 +119,7 @@ module _ (r : Record) (piece : List ℕ) where
             total = r .total + sym (length-take-le at piece le) i;
             chain = is i;
             held = heldOf (sym none-held i);
+            split = r .split;
           }
 
       -- and further whole blocks go on from the chain there
@@ -168,7 +169,7 @@ module _ (r : Record) (piece : List ℕ) where
       -- the record so far is taken by Append, with what is left of the piece
       pub so-far-sound : (at : ℕ) → at ≤ length piece → sound (so-far at) ≡ true
       so-far-sound at le =
-          appended-sound r ok words long (take at piece) (omega (arith, length-take-le at piece le, pass .within))
+          appended-sound r ok words long (take at piece) (pass .idle) (omega (arith, length-take-le at piece le, pass .within))
 
       module _ {start : ℕ} {from : List ℕ} (long-from : length from ≡ length roll) {at : ℕ} {now : List ℕ} (p : Stage start from at now) where
         abbrev k : ℕ

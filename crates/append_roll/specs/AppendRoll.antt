@@ -11,7 +11,7 @@ use Rattle.lsh.specs.Padding.{firstBlocks}
 use Rattle.runs.specs.Limits.{limit}
 use Rattle.record.specs.declared.Record.{Record}
 use Rattle.record.specs.declared.Outcome.{Outcome}
-use Rattle.record.specs.Record.{heldBytes, sound, refused}
+use Rattle.record.specs.Record.{heldBytes, sound, isBegun, refused}
 use Rattle.append.specs.Append.{appendAccepted}
 use Rattle.checkpoints.specs.Slots.{slotCount}
 use Rattle.checkpoints.specs.Roll.{links, spacing, checkpoints, isRollOf}
@@ -25,15 +25,16 @@ due r size = checkpoints (r .w) (r .total + size) - checkpoints (r .w) (r .total
 unfoldable pub isFull : Record → ℕ → List ℕ → Bool
 isFull r size roll = ltb (slotCount (sizeOf (r .w)) (length roll)) (length (links (sizeOf (r .w)) roll) + due r size)
 
--- by the record, the length of the piece and the roll: 3 if the record is not sound, then 15 if the roll is none of the record, 5 if the order would
--- pass the limit, 16 if the roll has too few slots, else 0
+-- by the record, the length of the piece and the roll: 3 if the record is not sound, then 17 if a split rewind is begun, 15 if the roll is none of the
+-- record, 5 if the order would pass the limit, 16 if the roll has too few slots, else 0
 unfoldable pub appendRollAnswer : Record → ℕ → List ℕ → ℕ
 appendRollAnswer r size roll =
     cond (not (sound r)) 3
+    (cond (isBegun r) 17
     (cond (not (isRollOf r roll)) 15
     (cond (ltb limit (r .total + size)) 5
     (cond (isFull r size roll) 16
-    0)))
+    0))))
 
 -- an accepted call answers as Append without a roll does
 unfoldable pub appendRollCall : Record → List ℕ → List ℕ → Outcome

@@ -48,6 +48,9 @@ fn answer(r: Record, size: usize, y: Way) -> u32
     if !record::is_sound(r) {
         return 3;
     }
+    if record::is_begun(r) {
+        return 17;
+    }
     if !roll::is_roll_of(y, r) {
         return 15;
     }
@@ -142,26 +145,18 @@ fn next_part(w: u64, p: Progress, part: &[u8], roll: &mut [u8]) -> Progress
 }
 
 // The last part, from a checkpoint at the place at of the piece. It reaches no other.
-fn last_part(r: Record, p: Progress, at: usize, part: &[u8]) -> Outcome
+fn last_part(mut r: Record, p: Progress, at: usize, part: &[u8]) -> Outcome
     requires { ⌜ (r .total + at + length (now part) ≤ limit) × (p .count ≤ limit)
-        × ((order : Record) → order ≡ record { w = r .w; n = r .n; total = r .total + at; chain = p .chain; held = heldOf [] } → sound order ≡ true) ⌝ }
-    ensures { λ o. ⌜ ((order : Record) → order ≡ record { w = r .w; n = r .n; total = r .total + at; chain = p .chain; held = heldOf [] }
+        × ((order : Record) → order ≡ record { w = r .w; n = r .n; total = r .total + at; chain = p .chain; held = heldOf []; split = r .split } → sound order ≡ true) ⌝ }
+    ensures { λ o. ⌜ ((order : Record) → order ≡ record { w = r .w; n = r .n; total = r .total + at; chain = p .chain; held = heldOf []; split = r .split }
         → o ≡ record { number = 0; count = p .count + (appendAccepted order (now (part .entry)) .count); next = appended order (now (part .entry)) }) ⌝ }
 {
     let chain = p.chain;
     let held = runs::zero_bytes();
-    let order = Record {
-        w: r.w,
-        n: r.n,
-        total: r.total + at as u64,
-        chain: chain,
-        held: held,
-    };
-    let o = append::accepted(order, part);
-    let next = o.next;
-    Outcome {
-        number: 0,
-        count: p.count + o.count,
-        next: next,
-    }
+    r.total += at as u64;
+    r.chain = chain;
+    r.held = held;
+    let mut o = append::accepted(r, part);
+    o.count = p.count + o.count;
+    o
 }

@@ -6,9 +6,14 @@ ghost use Rattle.block_call.specs.BlockCall.{blockAnswer, forwardBytes, backwar
 ghost use Rattle.record.specs.Open.{openCall};
 ghost use Rattle.append.specs.Append.{appendCall};
 ghost use Rattle.rewind.specs.Rewind.{rewindCall};
+ghost use Rattle.split_rewind.specs.Begin.{beginCall};
+ghost use Rattle.split_rewind.specs.HandBack.{handBackCall};
+ghost use Rattle.split_rewind.specs.End.{endCall};
+ghost use Rattle.split_rewind.specs.Abandon.{abandonCall};
 ghost use Rattle.checkpoints.specs.FreeSlot.{freeSlot, FreeChoice};
 ghost use Rattle.append_roll.specs.AppendRoll.{appendRollCall, appendedRoll};
 ghost use Rattle.rewind_roll.specs.RewindRoll.{rewindRollCall, rewoundRoll};
+ghost use Rattle.end_roll.specs.EndRoll.{endRollCall, endedRoll};
 ghost use Rattle.close.specs.Close.{closeAnswer, closeOutput};
 ghost use Rattle.whole.specs.Whole.{wholeAnswer, wholeOutput};
 ghost use Rattle.same.specs.Same.{sameCall};
@@ -54,6 +59,34 @@ pub extern "C" fn lsh_rewind(r: Record, keep: u64, h: &[u8]) -> Outcome
 }
 
 #[no_mangle]
+pub extern "C" fn lsh_begin(r: Record, bytes: &[u8]) -> Outcome
+    ensures { λ o. ⌜ o ≡ beginCall r (now (bytes .entry)) ⌝ }
+{
+    split_rewind::begin(r, bytes)
+}
+
+#[no_mangle]
+pub extern "C" fn lsh_hand_back(r: Record, block: &[u8]) -> Outcome
+    ensures { λ o. ⌜ o ≡ handBackCall r (now (block .entry)) ⌝ }
+{
+    split_rewind::hand_back(r, block)
+}
+
+#[no_mangle]
+pub extern "C" fn lsh_end(r: Record, keep: u64) -> Outcome
+    ensures { λ o. ⌜ o ≡ endCall r keep ⌝ }
+{
+    split_rewind::end(r, keep)
+}
+
+#[no_mangle]
+pub extern "C" fn lsh_abandon(r: Record) -> Outcome
+    ensures { λ o. ⌜ o ≡ abandonCall r ⌝ }
+{
+    split_rewind::abandon(r)
+}
+
+#[no_mangle]
 pub extern "C" fn lsh_append_roll(r: Record, piece: &[u8], roll: &mut [u8]) -> Outcome
     ensures { λ o. ⌜ (o ≡ appendRollCall r (now (piece .entry)) (now (roll .entry))) × (now (roll .exit) ≡ appendedRoll r (now (piece .entry)) (now (roll .entry))) × FreeChoice freeSlot ⌝ }
 {
@@ -65,6 +98,13 @@ pub extern "C" fn lsh_rewind_roll(r: Record, keep: u64, h: &[u8], roll: &mut [u8
     ensures { λ o. ⌜ (o ≡ rewindRollCall r keep (now (h .entry)) (now (roll .entry))) × (now (roll .exit) ≡ rewoundRoll r keep (now (h .entry)) (now (roll .entry))) ⌝ }
 {
     rewind_roll::rewind_roll(r, keep, h, roll)
+}
+
+#[no_mangle]
+pub extern "C" fn lsh_end_roll(r: Record, keep: u64, roll: &mut [u8]) -> Outcome
+    ensures { λ o. ⌜ (o ≡ endRollCall r keep (now (roll .entry))) × (now (roll .exit) ≡ endedRoll r keep (now (roll .entry))) ⌝ }
+{
+    end_roll::end_roll(r, keep, roll)
 }
 
 #[no_mangle]

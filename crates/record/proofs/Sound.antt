@@ -5,7 +5,7 @@ use mathlib.Core.Bool.{Bool, true, _&&_}
 use mathlib.Core.List.{List}
 use Prim.Native.Nat.{ℕ, _%_, _^_, _≤_, _<_}
 use native.Mathlib.Omega.{arith}
-use borrow.Author.Tests.{leb-true}
+use borrow.Author.Tests.{leb-true, le-leb}
 use lib.Dec.{leb}
 use lib.ListN.{length, drop}
 use Rattle.lsh.specs.Tabulate.{at}
@@ -14,7 +14,9 @@ use Rattle.lsh.specs.Block.{Chain}
 use Rattle.lsh.proofs.Figures.{by-size, bits-are}
 use Rattle.runs.specs.Limits.{isDigestLength, limit}
 use Rattle.record.specs.declared.Record.{Record}
-use Rattle.record.specs.Record.{allBelow, allZero, sound}
+use Rattle.record.specs.Lists.{allBelow, allZero}
+use Rattle.record.specs.Split.{splitSound}
+use Rattle.record.specs.Record.{sound}
 use Rattle.lsh.proofs.Tests.{and-true}
 use Rattle.record.proofs.Lists.{at-below, all-below}
 
@@ -24,6 +26,7 @@ pub record Sound (r : Record) : Type 0 where
   pub few : r .total ≤ limit
   pub below : allBelow (2 ^ r .w) (r .chain) ≡ true
   pub zero : allZero (drop (r .total % blockBytes (sizeOf (r .w))) (r .held)) ≡ true
+  pub split : splitSound (r .w) (r .total) (r .chain) (r .split) ≡ true
 
 pub sounds : (r : Record) → sound r ≡ true → Sound r
 unfolding sound
@@ -33,7 +36,9 @@ sounds r e =
     let c : Bool = leb (r .total) limit in
     let d : Bool = allBelow (2 ^ r .w) (r .chain) in
     let z : Bool = allZero (drop (r .total % blockBytes (sizeOf (r .w))) (r .held)) in
-    let p4 : (a && b && c && d ≡ true) × (z ≡ true) = and-true (a && b && c && d) z e in
+    let x : Bool = splitSound (r .w) (r .total) (r .chain) (r .split) in
+    let p5 : (a && b && c && d && z ≡ true) × (x ≡ true) = and-true (a && b && c && d && z) x e in
+    let p4 : (a && b && c && d ≡ true) × (z ≡ true) = and-true (a && b && c && d) z (p5 .0) in
     let p3 : (a && b && c ≡ true) × (d ≡ true) = and-true (a && b && c) d (p4 .0) in
     let p2 : (a && b ≡ true) × (c ≡ true) = and-true (a && b) c (p3 .0) in
     record {
@@ -42,7 +47,13 @@ sounds r e =
       few = leb-true (r .total) limit (p2 .1);
       below = p3 .1;
       zero = p4 .1;
+      split = p5 .1;
     }
+
+-- and back
+pub is-sound : (r : Record) → Sound r → sound r ≡ true
+unfolding sound
+is-sound r s = rw (s .word, s .digestLength, le-leb (r .total) limit (s .few), s .below, s .zero, s .split)
 
 some-words : (w : ℕ) → isWordSize w ≡ true → 0 < 2 ^ w
 some-words = by-size (λ (w : ℕ). 0 < 2 ^ w) (omega arith) (omega arith)

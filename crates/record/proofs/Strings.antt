@@ -18,13 +18,12 @@ use Rattle.lsh.proofs.Opening.{opening-chain}
 use Rattle.lsh.proofs.Padding.{length-rest}
 use Rattle.runs.specs.Limits.{longestBlock, isDigestLength, limit}
 use Rattle.runs.specs.ZeroFilled.{zeroFilled}
-use Rattle.record.specs.Record.{heldOf, allBelow, allZero, sound, heldBytes, recordOf}
+use Rattle.record.specs.Lists.{allBelow, allZero}
+use Rattle.record.specs.Record.{heldOf, sound, heldBytes, recordOf}
 use Rattle.record.specs.Open.{opened}
+use Rattle.record.proofs.Lists.{all-zero}
 use Rattle.record.proofs.Sound.{chain-below}
-
-all-zero : (k : ℕ) → allZero (replicate k 0) ≡ true
-all-zero zero = refl
-all-zero (suc k) = all-zero k
+use Rattle.record.proofs.Begun.{not-begun-sound}
 
 -- what fills a string is 0
 pub filled-zero : (n : ℕ) (s : List ℕ) (k : ℕ) → length s ≡ k → allZero (drop k (zeroFilled n s)) ≡ true
@@ -52,7 +51,15 @@ module _ (w n : ℕ) (m : List ℕ) (word : isWordSize w ≡ true) where
 
   pub record-sound : isDigestLength w n ≡ true → length m ≤ limit → sound (recordOf w n m) ≡ true
   unfolding sound recordOf heldOf
-  record-sound digest few = rw (word, digest, le-leb (length m) limit few, below) (filled-zero longestBlock (restOf Z m) (length m % blockBytes Z) size)
+  record-sound digest few =
+      rw (
+        word,
+        digest,
+        le-leb (length m) limit few,
+        below,
+        filled-zero longestBlock (restOf Z m) (length m % blockBytes Z) size,
+        not-begun-sound w (length m) chain,
+      )
 
 -- the record of no bytes is that of a new order
 pub record-none : (w n : ℕ) → recordOf w n [] ≡ opened w n

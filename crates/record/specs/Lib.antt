@@ -1,2 +1,4 @@
+pub mod Lists
+pub mod Split
 pub mod Record
 pub mod Open

@@ -8,11 +8,12 @@ use Rattle.lsh.specs.Opening.{opening}
 use Rattle.runs.specs.Limits.{isDigestLength}
 use Rattle.record.specs.declared.Record.{Record}
 use Rattle.record.specs.declared.Outcome.{Outcome}
+use Rattle.record.specs.Split.{notBegun}
 use Rattle.record.specs.Record.{heldOf, zeros, refused}
 
 -- the record of an order without bytes
 unfoldable pub opened : ℕ → ℕ → Record
-opened w n = record { w = w; n = n; total = 0; chain = opening (sizeOf w) n; held = heldOf [] }
+opened w n = record { w = w; n = n; total = 0; chain = opening (sizeOf w) n; held = heldOf []; split = notBegun }
 
 -- Open: 1 if w is neither 32 nor 64, then 2 if n is no digest length of w, else 0
 unfoldable pub openCall : ℕ → ℕ → Outcome

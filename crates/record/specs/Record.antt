@@ -1,9 +1,9 @@
 -- The record of an order: when it is sound, the bytes it holds, and the record of a byte string; and the answer to a refused call.
 -- Assumes nothing.
-use mathlib.Core.Bool.{Bool, true, _&&_}
-use mathlib.Core.List.{List, [], _∷_}
+use mathlib.Core.Bool.{Bool, _&&_}
+use mathlib.Core.List.{List}
 use Prim.Native.Nat.{ℕ, _%_, _^_}
-use lib.Dec.{eqb, ltb, leb}
+use lib.Dec.{eqb, leb}
 use lib.ListN.{length, take, drop, replicate}
 use Rattle.lsh.specs.WordSize.{isWordSize, sizeOf, blockBytes}
 use Rattle.lsh.specs.Block.{forwards}
@@ -12,7 +12,10 @@ use Rattle.lsh.specs.Padding.{blocksOf, restOf}
 use Rattle.runs.specs.Limits.{longestBlock, isDigestLength, limit}
 use Rattle.runs.specs.ZeroFilled.{zeroFilled}
 use Rattle.record.specs.declared.Record.{Record}
+use Rattle.record.specs.declared.Split.{Split}
 use Rattle.record.specs.declared.Outcome.{Outcome}
+use Rattle.record.specs.Lists.{allBelow, allZero}
+use Rattle.record.specs.Split.{notBegun, splitSound}
 
 -- the bytes s, and zeros after them, as many in all as a block has at most
 unfoldable pub heldOf : List ℕ → List ℕ
@@ -22,17 +25,8 @@ heldOf s = zeroFilled longestBlock s
 abbrev pub heldLength : ℕ → ℕ → ℕ
 heldLength w total = total % blockBytes (sizeOf w)
 
--- each number of s is below m
-abbrev pub allBelow : ℕ → List ℕ → Bool
-allBelow m [] = true
-allBelow m (x ∷ xs) = ltb x m && allBelow m xs
-
--- each number of s is 0
-abbrev pub allZero : List ℕ → Bool
-allZero [] = true
-allZero (x ∷ xs) = eqb x 0 && allZero xs
-
--- a record that the calls take: its figures are in range, its words fit in w bits, and each byte after those held is 0
+-- a record that the calls take: its figures are in range, its words fit in w bits, each byte after those held is 0, and what it has of a split rewind
+-- is sound
 unfoldable pub sound : Record → Bool
 sound r =
     isWordSize (r .w)
@@ -40,6 +34,11 @@ sound r =
     && leb (r .total) limit
     && allBelow (2 ^ r .w) (r .chain)
     && allZero (drop (heldLength (r .w) (r .total)) (r .held))
+    && splitSound (r .w) (r .total) (r .chain) (r .split)
+
+-- a split rewind is begun
+unfoldable pub isBegun : Record → Bool
+isBegun r = eqb (r .split .mark) 1
 
 -- the bytes held
 unfoldable pub heldBytes : Record → List ℕ
@@ -47,9 +46,9 @@ heldBytes r = take (heldLength (r .w) (r .total)) (r .held)
 
 -- the record of zeros, which a refused Open returns
 unfoldable pub zeros : Record
-zeros = record { w = 0; n = 0; total = 0; chain = replicate 16 0; held = replicate longestBlock 0 }
+zeros = record { w = 0; n = 0; total = 0; chain = replicate 16 0; held = replicate longestBlock 0; split = notBegun }
 
--- the record of the bytes m: the opening chain run over their whole blocks, and the rest held
+-- the record of the bytes m: the opening chain run over their whole blocks, and the rest held; no split rewind is begun
 unfoldable pub recordOf : ℕ → ℕ → List ℕ → Record
 recordOf w n m =
     record {
@@ -58,7 +57,16 @@ recordOf w n m =
       total = length m;
       chain = forwards (sizeOf w) (blocksOf (sizeOf w) m) (opening (sizeOf w) n);
       held = heldOf (restOf (sizeOf w) m);
+      split = notBegun;
     }
+
+-- the record with another split rewind, the rest as it is
+unfoldable pub withSplit : Record → Split → Record
+withSplit r s = record { w = r .w; n = r .n; total = r .total; chain = r .chain; held = r .held; split = s }
+
+-- an accepted step of a split rewind: no block is counted
+unfoldable pub stepped : Record → Split → Outcome
+stepped r s = record { number = 0; count = 0; next = withSplit r s }
 
 -- a refused call: no block is run, and the record is as given here
 unfoldable pub refused : ℕ → Record → Outcome

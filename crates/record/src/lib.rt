@@ -6,12 +6,14 @@ ghost use lib.ListN.{length, drop};
 ghost use lib.Seq.{paste};
 ghost use Rattle.lsh.specs.WordSize.{isWordSize};
 ghost use Rattle.runs.specs.Limits.{longestBlock};
-ghost use Rattle.record.specs.Record.{heldOf, heldLength, allBelow, allZero, sound, zeros, refused};
+ghost use Rattle.record.specs.Lists.{allBelow, allZero};
+ghost use Rattle.record.specs.Split.{notBegun, noneBegun, oneBegun, splitSound};
+ghost use Rattle.record.specs.Record.{heldOf, heldLength, sound, zeros, isBegun, stepped, refused};
 ghost use Rattle.record.specs.Open.{openCall};
 use runs::LONGEST_BLOCK;
 
 // What is kept of an order between calls: the word size, the digest length in bits, how many bytes there were, the chain after
-// their whole blocks, and the bytes held since. C has it by value, as lsh_record.
+// their whole blocks, the bytes held since, and how far a split rewind is. C has it by value, as lsh_record.
 #[repr(C)]
 pub struct Record {
     pub w: u64,
@@ -19,6 +21,17 @@ pub struct Record {
     pub total: u64,
     pub chain: [u64; 16],
     pub held: [u8; LONGEST_BLOCK],
+    pub split: Split,
+}
+
+// A split rewind: the mark, 0 or 1 once begun, the second chain, which is run back so far, the bytes handed back last, and the number of
+// blocks handed back. C has these as the last fields of lsh_record.
+#[repr(C)]
+pub struct Split {
+    pub mark: u64,
+    pub second: [u64; 16],
+    pub back: [u8; LONGEST_BLOCK],
+    pub blocks: u64,
 }
 
 // The answer to a call: its number, how many blocks were run, and the record that follows. C has it as lsh_outcome.
@@ -41,12 +54,14 @@ pub fn open(w: u64, n: u64) -> Outcome
     }
     let c = runs::opening(w, n);
     let h = runs::zero_bytes();
+    let s = not_begun();
     let next = Record {
         w: w,
         n: n,
         total: 0,
         chain: c,
         held: h,
+        split: s,
     };
     Outcome {
         number: 0,
@@ -66,15 +81,42 @@ pub fn refused(number: u32, r: Record) -> Outcome
     }
 }
 
+// The answer to an accepted step of a split rewind: the same record, but for how far the rewind is. No block is counted.
+pub fn stepped(mut r: Record, s: Split) -> Outcome
+    ensures { λ o. ⌜ o ≡ stepped r s ⌝ }
+{
+    r.split = s;
+    Outcome {
+        number: 0,
+        count: 0,
+        next: r,
+    }
+}
+
 fn no_record() -> Record
     ensures { λ r. ⌜ r ≡ zeros ⌝ }
 {
+    let s = not_begun();
     Record {
         w: 0,
         n: 0,
         total: 0,
         chain: [0u64; 16],
         held: [0u8; LONGEST_BLOCK],
+        split: s,
+    }
+}
+
+// What a record has of a split rewind while none is begun.
+pub fn not_begun() -> Split
+    ensures { λ s. ⌜ s ≡ notBegun ⌝ }
+{
+    let zeros = runs::zero_bytes();
+    Split {
+        mark: 0,
+        second: [0u64; 16],
+        back: zeros,
+        blocks: 0,
     }
 }
 
@@ -87,6 +129,7 @@ pub fn is_sound(r: Record) -> bool
     let total = r.total;
     let chain = r.chain;
     let held = r.held;
+    let split = r.split;
     if !runs::is_word_size(w) {
         return false;
     }
@@ -96,11 +139,52 @@ pub fn is_sound(r: Record) -> bool
     if (runs::LIMIT as u64) < total {
         return false;
     }
-    if !words_below(w, chain) {
-        return false;
-    }
     let at = held_length(w, total);
-    zero_from(&held, at)
+    words_below(w, chain) & zero_from(&held, at) & is_split_sound(w, total, chain, split)
+}
+
+// Whether a split rewind is begun.
+pub fn is_begun(r: Record) -> bool
+    ensures { λ b. ⌜ b ≡ isBegun r ⌝ }
+{
+    let s = r.split;
+    s.mark == 1
+}
+
+// Whether the record has of a split rewind what it may.
+fn is_split_sound(w: u64, total: u64, chain: [u64; 16], s: Split) -> bool
+    requires { ⌜ isWordSize w ≡ true ⌝ }
+    ensures { λ b. ⌜ b ≡ splitSound w total chain s ⌝ }
+{
+    if s.mark == 0 {
+        return is_none_begun(s);
+    }
+    is_one_begun(w, total, chain, s)
+}
+
+// Whether all is zero.
+fn is_none_begun(s: Split) -> bool
+    ensures { λ b. ⌜ b ≡ noneBegun s ⌝ }
+{
+    let second = s.second;
+    let back = s.back;
+    (s.mark == 0) & (s.blocks == 0) & words_zero(second) & zero_from(&back, 0)
+}
+
+// Whether one is begun, in an order of this total and chain.
+fn is_one_begun(w: u64, total: u64, chain: [u64; 16], s: Split) -> bool
+    requires { ⌜ isWordSize w ≡ true ⌝ }
+    ensures { λ b. ⌜ b ≡ oneBegun w total chain s ⌝ }
+{
+    let second = s.second;
+    let back = s.back;
+    let blocks = s.blocks;
+    let b = runs::block_bytes(w);
+    (s.mark == 1)
+        & (blocks <= total / b as u64)
+        & words_below(w, second)
+        & zero_from(&back, b)
+        & ((blocks != 0) | (equal::equal_chains(second, chain) & zero_from(&back, 0)))
 }
 
 // How many bytes are held of an order of this total: those after its last whole block.
@@ -129,18 +213,31 @@ fn words_below(w: u64, chain: [u64; 16]) -> bool
     true
 }
 
-// Whether each byte from a place on is 0.
+// Whether each word is 0.
+fn words_zero(t: [u64; 16]) -> bool
+    ensures { λ b. ⌜ b ≡ allZero t ⌝ }
+{
+    let c = t;
+    let mut zero = true;
+    let mut i: usize = 0;
+    while i < 16 {
+        zero = zero & (c[i] == 0);
+        i += 1;
+    }
+    zero
+}
+
+// Whether each byte from a place on is 0. There is no early end, so that the compiler tests many bytes at once.
 pub fn zero_from(s: &[u8], at: usize) -> bool
     ensures { λ b. ⌜ b ≡ allZero (drop at (now (s .entry))) ⌝ }
 {
+    let mut zero = true;
     let mut i = at;
     while i < s.len() {
-        if s[i] != 0 {
-            return false;
-        }
+        zero = zero & (s[i] == 0);
         i += 1;
     }
-    true
+    zero
 }
 
 // The held bytes that begin with the part, the others 0.

@@ -12,7 +12,8 @@ use Rattle.lsh.specs.Padding.{blocksOf}
 use Rattle.equal.specs.Equal.{equal}
 use Rattle.record.specs.declared.Record.{Record}
 use Rattle.record.specs.declared.Outcome.{Outcome}
-use Rattle.record.specs.Record.{heldOf, heldLength, heldBytes, sound, refused}
+use Rattle.record.specs.Split.{notBegun}
+use Rattle.record.specs.Record.{heldOf, heldLength, heldBytes, sound, isBegun, refused}
 
 -- 6, with blocks of b bytes: the size bytes handed back are more than the total, or do not begin with a block
 unfoldable pub startsOffBlock : ℕ → ℕ → ℕ → Bool
@@ -30,21 +31,27 @@ heldDiffers r h = not (equal (drop (length h - heldLength (r .w) (r .total)) h) 
 unfoldable pub reached : Record → List ℕ → List ℕ
 reached r h = backwards (sizeOf (r .w)) (blocksOf (sizeOf (r .w)) h) (r .chain)
 
--- 9: the whole order was handed back, and the chain reached is not the opening chain
-unfoldable pub openingDiffers : Record → List ℕ → Bool
-openingDiffers r h = eqb (r .total - length h) 0 && not (equal (reached r h) (opening (sizeOf (r .w)) (r .n)))
+-- 9, where size bytes were handed back and lead back to the chain c: they are the whole order, and c is not the opening chain
+unfoldable pub openingDiffers : Record → ℕ → List ℕ → Bool
+openingDiffers r size c = eqb (r .total - size) 0 && not (equal c (opening (sizeOf (r .w)) (r .n)))
 
--- the record of what remains
-unfoldable pub rewound : Record → ℕ → List ℕ → Record
-rewound r keep h =
-    record { w = r .w; n = r .n; total = r .total - length h + keep; chain = reached r h; held = heldOf (take keep h) }
+-- the record of what remains: the chain is c, and the first keep of the bytes s are held
+unfoldable pub rewound : Record → ℕ → ℕ → List ℕ → List ℕ → Record
+rewound r size keep c s =
+    record { w = r .w; n = r .n; total = r .total - size + keep; chain = c; held = heldOf (take keep s); split = notBegun }
 
--- Rewind: 3 if the record is not sound, then 6, 7, 8 and 9, else 0 with the number of blocks run backward
+-- the answer where the tests before 9 are passed: 9, else 0 with the number of blocks run backward
+unfoldable pub woundBack : Record → ℕ → ℕ → List ℕ → List ℕ → Outcome
+woundBack r size keep c s =
+    cond (openingDiffers r size c) (refused 9 r)
+    (record { number = 0; count = size / blockBytes (sizeOf (r .w)); next = rewound r size keep c s })
+
+-- Rewind: 3 if the record is not sound, then 17 if a split rewind is begun, and then 6, 7, 8, 9, else 0
 unfoldable pub rewindCall : Record → ℕ → List ℕ → Outcome
 rewindCall r keep h =
     cond (not (sound r)) (refused 3 r)
+    (cond (isBegun r) (refused 17 r)
     (cond (startsOffBlock (blockBytes (sizeOf (r .w))) (r .total) (length h)) (refused 6 r)
     (cond (keepsTooMuch (blockBytes (sizeOf (r .w))) keep (length h)) (refused 7 r)
     (cond (heldDiffers r h) (refused 8 r)
-    (cond (openingDiffers r h) (refused 9 r)
-    (record { number = 0; count = length h / blockBytes (sizeOf (r .w)); next = rewound r keep h })))))
+    (woundBack r (length h) keep (reached r h) h)))))

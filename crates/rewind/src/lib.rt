@@ -1,14 +1,15 @@
 // Rewind: the end of an order is taken back by running its blocks backward.
 ghost use mathlib.Core.Path.{_≡_};
 ghost use mathlib.Core.Bool.{true, false, not, _&&_};
+ghost use Prim.Native.Nat.{_/_, _<_, _≤_};
 ghost use lib.Dec.{eqb};
 ghost use lib.ListN.{length};
 ghost use Rattle.lsh.specs.WordSize.{isWordSize, sizeOf, blockBytes};
 ghost use Rattle.lsh.specs.Opening.{opening};
 ghost use Rattle.runs.specs.Limits.{isDigestLength};
 ghost use Rattle.equal.specs.Equal.{equal};
-ghost use Rattle.record.specs.Record.{sound};
-ghost use Rattle.rewind.specs.Rewind.{startsOffBlock, keepsTooMuch, heldDiffers, rewindCall};
+ghost use Rattle.record.specs.Record.{heldLength, sound, isBegun};
+ghost use Rattle.rewind.specs.Rewind.{startsOffBlock, keepsTooMuch, heldDiffers, woundBack, rewindCall};
 use record::Outcome;
 use record::Record;
 
@@ -18,6 +19,9 @@ pub fn rewind(r: Record, keep: u64, h: &[u8]) -> Outcome
 {
     if !record::is_sound(r) {
         return record::refused(3, r);
+    }
+    if record::is_begun(r) {
+        return record::refused(17, r);
     }
     let size = h.len() as u64;
     if starts_off_block(r.w, r.total, size) {
@@ -38,7 +42,7 @@ fn starts_off_block(w: u64, total: u64, size: u64) -> bool
     (total - size) % runs::block_bytes(w) as u64 != 0
 }
 
-fn keeps_too_much(w: u64, keep: u64, size: u64) -> bool
+pub fn keeps_too_much(w: u64, keep: u64, size: u64) -> bool
     ensures { λ b. ⌜ b ≡ keepsTooMuch (blockBytes (sizeOf w)) keep size ⌝ }
 {
     if size < keep {
@@ -47,43 +51,61 @@ fn keeps_too_much(w: u64, keep: u64, size: u64) -> bool
     runs::block_bytes(w) as u64 <= keep
 }
 
-// Where the lengths are right. 9 is known only after the run, which is on copies, so a refusal has nothing to undo.
+// Where the lengths are right.
 fn rewind_bytes(r: Record, keep: u64, h: &[u8]) -> Outcome
     requires { ⌜ (sound r ≡ true)
+        × (isBegun r ≡ false)
         × (startsOffBlock (blockBytes (sizeOf (r .w))) (r .total) (length (now h)) ≡ false)
         × (keepsTooMuch (blockBytes (sizeOf (r .w))) keep (length (now h)) ≡ false) ⌝ }
     ensures { λ o. ⌜ o ≡ rewindCall r keep (now (h .entry)) ⌝ }
 {
-    let w = r.w;
-    let n = r.n;
-    let total = r.total;
-    let chain = r.chain;
     if held_differs(r, h) {
         return record::refused(8, r);
     }
-    let run = runs::backward(w, chain, h);
+    let chain = r.chain;
+    let run = runs::backward(r.w, chain, h);
     let c = run.chain;
-    let left = total - h.len() as u64;
+    wound_back(r, run.count as u64, h.len() as u64, keep, c, h)
+}
+
+// The answer where size bytes were handed back, which lead back to the chain c over count blocks, and the first keep of the bytes s remain.
+// 9 is known only after the run, which is on copies, so a refusal has nothing to undo.
+pub fn wound_back(r: Record, count: u64, size: u64, keep: u64, c: [u64; 16], s: &[u8]) -> Outcome
+    requires { ⌜ (sound r ≡ true)
+        × (count ≡ size / blockBytes (sizeOf (r .w)))
+        × (size ≤ r .total)
+        × (keep ≤ size)
+        × (keep < blockBytes (sizeOf (r .w)))
+        × (keep ≤ length (now s)) ⌝ }
+    ensures { λ o. ⌜ o ≡ woundBack r size keep c (now (s .entry)) ⌝ }
+{
+    let w = r.w;
+    let n = r.n;
+    let total = r.total;
+    let left = total - size;
     if opening_differs(w, n, left, c) {
         return record::refused(9, r);
     }
-    let kept = record::hold(&h[..keep as usize]);
+    let kept = record::hold(&s[..keep as usize]);
+    let none = record::not_begun();
     let next = Record {
         w: w,
         n: n,
         total: left + keep,
         chain: c,
         held: kept,
+        split: none,
     };
     Outcome {
         number: 0,
-        count: run.count as u64,
+        count: count,
         next: next,
     }
 }
 
-fn held_differs(r: Record, h: &[u8]) -> bool
-    requires { ⌜ (sound r ≡ true) × (startsOffBlock (blockBytes (sizeOf (r .w))) (r .total) (length (now h)) ≡ false) ⌝ }
+// Whether as many of the last bytes of h as are held are not those held.
+pub fn held_differs(r: Record, h: &[u8]) -> bool
+    requires { ⌜ heldLength (r .w) (r .total) ≤ length (now h) ⌝ }
     ensures { λ b. ⌜ b ≡ heldDiffers r (now (h .entry)) ⌝ }
 {
     let held = r.held;

@@ -28,7 +28,7 @@ use Rattle.finalization.specs.Ending.{messageBits, mostBits}
 use Rattle.finalization.proofs.FinalBytes.{length-final, at-append-zeros}
 use Rattle.finalization.proofs.Ending.{message-length}
 use Rattle.record.specs.declared.Record.{Record}
-use Rattle.record.specs.Record.{allZero}
+use Rattle.record.specs.Lists.{allZero}
 use Rattle.record.proofs.Sound.{sounds}
 use Rattle.record.proofs.Strings.{filled-zero}
 use Rattle.whole.specs.Whole.{wholeAnswer, wholeOutput}

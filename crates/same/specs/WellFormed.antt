@@ -11,7 +11,7 @@ use Rattle.lsh.specs.WordSize.{isWordSize}
 use Rattle.runs.specs.Limits.{isDigestLength}
 use Rattle.finalization.specs.Receipt.{receiptBytes, digestPlace, lengthPlace}
 use Rattle.finalization.specs.Ending.{mostBits}
-use Rattle.record.specs.Record.{allZero}
+use Rattle.record.specs.Lists.{allZero}
 use Rattle.same.specs.Parts.{wordSizeOf, digestLengthOf, bitLengthOf}
 
 -- the low bits of the last byte of a digest of n bits are 0 where the digest does not use them

@@ -1,5 +1,6 @@
 pub mod Sequence
 pub mod Tape
+pub mod TapeSteps
 pub mod Calls
 pub mod TapeRoll
 pub mod Corrected

@@ -8,6 +8,8 @@ pub mod roll;
 
 pub use replay::{hex, program, replay, Script};
 
+use std::mem::offset_of;
+
 /// What a call answers.
 pub const ACCEPTED: u32 = 0;
 pub const BAD_WORD_SIZE: u32 = 1;
@@ -16,6 +18,7 @@ pub const NO_RECEIPTS: u32 = 13;
 pub const MALFORMED: u32 = 14;
 pub const BAD_ROLL: u32 = 15;
 pub const FULL_ROLL: u32 = 16;
+pub const OUT_OF_TURN: u32 = 17;
 
 /// The most bytes of a message or of an order, and the most bits of a message.
 pub const MOST_BYTES: u64 = 1 << 40;
@@ -46,7 +49,7 @@ pub fn bit_length(receipt: &[u8]) -> u64 {
     u64::from_le_bytes(receipt[LENGTH_PLACE..RECEIPT_BYTES].try_into().unwrap())
 }
 
-/// The record of an order.
+/// The record of an order, and how far a split rewind of it is.
 #[repr(C)]
 #[derive(Clone, Copy, PartialEq, Eq, Debug)]
 pub struct Record {
@@ -55,6 +58,17 @@ pub struct Record {
     pub total: u64,
     pub chain: [u64; 16],
     pub held: [u8; 256],
+    pub mark: u64,
+    pub second: [u64; 16],
+    pub back: [u8; 256],
+    pub blocks: u64,
+}
+
+impl Record {
+    /// A record with no split rewind begun.
+    pub fn none_begun(w: u64, n: u64, total: u64, chain: [u64; 16], held: [u8; 256]) -> Record {
+        Record { w, n, total, chain, held, mark: 0, second: [0; 16], back: [0; 256], blocks: 0 }
+    }
 }
 
 /// The answer to a call on an order.
@@ -65,6 +79,17 @@ pub struct Outcome {
     pub count: u64,
     pub next: Record,
 }
+
+impl Outcome {
+    pub fn refused(number: u32, r: &Record) -> Outcome {
+        Outcome { number, count: 0, next: *r }
+    }
+}
+
+// The header asserts these too.
+const _: () = assert!(offset_of!(Record, mark) == 408 && offset_of!(Record, second) == 416);
+const _: () = assert!(offset_of!(Record, back) == 544 && offset_of!(Record, blocks) == 800);
+const _: () = assert!(size_of::<Record>() == 808 && size_of::<Outcome>() == 824);
 
 /// The answer to Same.
 #[repr(C)]
@@ -109,6 +134,11 @@ mod c {
             roll: *mut u8,
             roll_len: usize,
         ) -> Outcome;
+        pub fn lsh_begin(r: Record, bytes: *const u8, bytes_len: usize) -> Outcome;
+        pub fn lsh_hand_back(r: Record, block: *const u8, block_len: usize) -> Outcome;
+        pub fn lsh_end(r: Record, keep: u64) -> Outcome;
+        pub fn lsh_end_roll(r: Record, keep: u64, roll: *mut u8, roll_len: usize) -> Outcome;
+        pub fn lsh_abandon(r: Record) -> Outcome;
         pub fn lsh_close(r: Record, last: u8, e: u64, output: *mut u8, output_len: usize) -> u32;
         pub fn lsh_whole(
             w: u64,
@@ -168,6 +198,47 @@ pub fn rewind_roll(r: Record, keep: u64, h: &[u8], roll: &mut [u8]) -> Outcome {
     unsafe { c::lsh_rewind_roll(r, keep, h.as_ptr(), h.len(), roll.as_mut_ptr(), roll.len()) }
 }
 
+/// Begins a split rewind with the held bytes.
+pub fn begin(r: Record, bytes: &[u8]) -> Outcome {
+    // SAFETY: as in `append`.
+    unsafe { c::lsh_begin(r, bytes.as_ptr(), bytes.len()) }
+}
+
+/// Hands back one block in a split rewind.
+pub fn hand_back(r: Record, block: &[u8]) -> Outcome {
+    // SAFETY: as in `append`.
+    unsafe { c::lsh_hand_back(r, block.as_ptr(), block.len()) }
+}
+
+/// Ends a split rewind; the first keep of the bytes handed back remain.
+pub fn end(r: Record, keep: u64) -> Outcome {
+    // SAFETY: the record and the number pass by value.
+    unsafe { c::lsh_end(r, keep) }
+}
+
+/// Ends a split rewind of an order with a roll; the first keep of the bytes handed back remain.
+pub fn end_roll(r: Record, keep: u64, roll: &mut [u8]) -> Outcome {
+    // SAFETY: as in `append`.
+    unsafe { c::lsh_end_roll(r, keep, roll.as_mut_ptr(), roll.len()) }
+}
+
+/// Abandons a split rewind.
+pub fn abandon(r: Record) -> Outcome {
+    // SAFETY: the record passes by value.
+    unsafe { c::lsh_abandon(r) }
+}
+
+/// Begins a split rewind with the held bytes at the end of h, and hands back its blocks from the last one on. All of it has to be taken.
+pub fn hand_back_all(r: Record, h: &[u8]) -> Record {
+    let blocks = h.chunks_exact(4 * r.w as usize);
+    let taken = |outcome: Outcome| {
+        assert_eq!((outcome.number, outcome.count), (ACCEPTED, 0));
+        outcome.next
+    };
+    let begun = taken(begin(r, blocks.remainder()));
+    blocks.rev().fold(begun, |r, block| taken(hand_back(r, block)))
+}
+
 /// Writes the receipt of an order: its bytes, and then the top e bits of `last`.
 pub fn close(r: Record, last: u8, e: u64, output: &mut [u8]) -> u32 {
     // SAFETY: as in `append`.
@@ -190,6 +261,23 @@ pub fn same(a: &[u8], b: &[u8]) -> Sameness {
 pub fn tally(list: &[u8]) -> Counts {
     // SAFETY: as in `block_forward`.
     unsafe { c::lsh_tally(list.as_ptr(), list.len()) }
+}
+
+/// A test at each word size.
+#[macro_export]
+macro_rules! at_both_word_sizes {
+    ($($test:ident)*) => {
+        $(mod $test {
+            #[test]
+            fn w32() {
+                super::$test::<u32>();
+            }
+            #[test]
+            fn w64() {
+                super::$test::<u64>();
+            }
+        })*
+    };
 }
 
 /// The byte whose top e bits are the number `bits`; its other bits are 0.

@@ -1,5 +1,6 @@
 //! The bytes of a roll and what the calls may write to it, from document 02 (W1) and with nothing of the module.
 
+use crate::Random;
 use std::collections::HashSet;
 
 /// A checkpoint is laid at every block whose number is a multiple of this.
@@ -77,6 +78,26 @@ pub fn links(w: u64, roll: &[u8]) -> Option<Vec<usize>> {
         slot = index(w, roll, slot);
     }
     Some(links)
+}
+
+/// Whether the buffer is a roll of a record with this total: as many slots are linked as there are checkpoints.
+pub fn is_roll_of(w: u64, total: u64, roll: &[u8]) -> bool {
+    let checkpoints = total / (4 * w) / CHECKPOINT_BLOCKS as u64;
+    links(w, roll).is_some_and(|links| links.len() as u64 == checkpoints)
+}
+
+/// A roll with so many links, in slots at random. All other bytes are random, as in slots that were taken before.
+pub fn random_roll(w: u64, slots: usize, links: usize, random: &mut Random) -> Vec<u8> {
+    let mut roll = random.bytes(roll_bytes(w, slots));
+    let mut left: Vec<usize> = (1..=slots).collect();
+    let mut last = HEAD;
+    for _ in 0..links {
+        let slot = left.swap_remove(random.below(left.len() as u64) as usize);
+        set_index(w, &mut roll, last, slot);
+        last = slot;
+    }
+    set_index(w, &mut roll, last, 0);
+    roll
 }
 
 /// The slot, or the head, whose index leads to the link with this place, counted from 0.

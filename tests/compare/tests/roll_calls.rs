@@ -1,12 +1,12 @@
-//! Single calls with a roll, on any record and with any buffer, against a model written here over lsh_ref: through the archive, and those
-//! with small rolls once more through the program replay.
+//! Single calls with a roll, on any record with no split rewind begun and with any buffer, against a model written here over lsh_ref: through
+//! the archive, and those with small rolls once more through the program replay. Each Rewind is also made in steps.
 
 mod record;
 
 use compare::roll::{self, CHECKPOINT_BLOCKS, MOST_SLOTS};
-use compare::{hex, Outcome, Random, Record, Script, ACCEPTED, BAD_ROLL, FULL_ROLL};
+use compare::{at_both_word_sizes, hand_back_all, hex, Outcome, Random, Record, Script, ACCEPTED, BAD_ROLL, FULL_ROLL};
 use lsh_ref::Word;
-use record::{record_after, record_line, record_of};
+use record::{record_after, record_line, record_of, set_line};
 
 /// The most bytes of an order.
 const LIMIT: u64 = 1 << 40;
@@ -31,15 +31,6 @@ fn is_sound(r: &Record) -> bool {
         && r.held[(r.total % (4 * r.w)) as usize..].iter().all(|&byte| byte == 0)
 }
 
-fn is_roll_of<W: Word>(r: &Record, roll: &[u8]) -> bool {
-    let checkpoints = r.total / interval::<W>() as u64;
-    roll::links(r.w, roll).is_some_and(|links| links.len() as u64 == checkpoints)
-}
-
-fn refused(number: u32, r: &Record) -> Outcome {
-    Outcome { number, count: 0, next: *r }
-}
-
 fn chain_of<W: Word>(r: &Record) -> [W; 16] {
     r.chain.map(W::from_u64)
 }
@@ -47,13 +38,13 @@ fn chain_of<W: Word>(r: &Record) -> [W; 16] {
 /// The outcome of an Append, and the chains of the checkpoints due.
 fn right_append<W: Word>(r: &Record, piece: &[u8], roll: &[u8]) -> (Outcome, Vec<Vec<u8>>) {
     if !is_sound(r) {
-        return (refused(3, r), Vec::new());
+        return (Outcome::refused(3, r), Vec::new());
     }
-    if !is_roll_of::<W>(r, roll) {
-        return (refused(15, r), Vec::new());
+    if !roll::is_roll_of(r.w, r.total, roll) {
+        return (Outcome::refused(15, r), Vec::new());
     }
     if r.total + piece.len() as u64 > LIMIT {
-        return (refused(5, r), Vec::new());
+        return (Outcome::refused(5, r), Vec::new());
     }
     let held = (r.total % W::BLOCK_BYTES as u64) as usize;
     let first = (r.total / W::BLOCK_BYTES as u64) as usize;
@@ -69,7 +60,7 @@ fn right_append<W: Word>(r: &Record, piece: &[u8], roll: &[u8]) -> (Outcome, Vec
         }
     }
     if roll::links(r.w, roll).unwrap().len() + due.len() > roll::slot_count(r.w, roll.len()).unwrap() {
-        return (refused(16, r), Vec::new());
+        return (Outcome::refused(16, r), Vec::new());
     }
     let done = r.total as usize - held;
     let next = record_after(r.n, done, chain_of::<W>(r), &bytes);
@@ -78,29 +69,36 @@ fn right_append<W: Word>(r: &Record, piece: &[u8], roll: &[u8]) -> (Outcome, Vec
 
 fn right_rewind<W: Word>(r: &Record, keep: u64, h: &[u8], roll: &[u8]) -> Outcome {
     if !is_sound(r) {
-        return refused(3, r);
+        return Outcome::refused(3, r);
     }
-    if !is_roll_of::<W>(r, roll) {
-        return refused(15, r);
+    if !roll::is_roll_of(r.w, r.total, roll) {
+        return Outcome::refused(15, r);
     }
     let total = r.total as usize;
     if h.len() > total || !(total - h.len()).is_multiple_of(W::BLOCK_BYTES) {
-        return refused(6, r);
+        return Outcome::refused(6, r);
     }
     if keep > h.len() as u64 || keep >= W::BLOCK_BYTES as u64 {
-        return refused(7, r);
+        return Outcome::refused(7, r);
     }
     let blocks = h.chunks_exact(W::BLOCK_BYTES);
     if *blocks.remainder() != r.held[..blocks.remainder().len()] {
-        return refused(8, r);
+        return Outcome::refused(8, r);
     }
     let count = blocks.len() as u64;
     let reached = blocks.rev().fold(chain_of::<W>(r), |chain, block| lsh_ref::backward(&chain, block));
     let done = total - h.len();
     if done == 0 && reached != lsh_ref::opening_chain::<W>(r.n) {
-        return refused(9, r);
+        return Outcome::refused(9, r);
     }
     Outcome { number: ACCEPTED, count, next: record_after(r.n, done, reached, &h[..keep as usize]) }
+}
+
+/// Whether a begin with the last of these bytes and hand-backs of the others are taken.
+fn goes_in_steps<W: Word>(r: &Record, h: &[u8]) -> bool {
+    let rest = h.chunks_exact(W::BLOCK_BYTES).remainder();
+    let held = (r.total % W::BLOCK_BYTES as u64) as usize;
+    is_sound(r) && h.len() as u64 <= r.total && *rest == r.held[..held]
 }
 
 // ---- calls ----
@@ -158,7 +156,20 @@ impl Calls {
         let after = if right.number == ACCEPTED { roll::unlinked(r.w, roll, remaining) } else { roll.to_vec() };
         lent.assert_is(&after, "a Rewind");
         self.script(r, roll, format!("rewindroll {keep} {}", hex(h)), "rewindroll", &right, &after);
+        if goes_in_steps::<W>(r, h) {
+            self.rewind_in_steps(r, keep, h, roll, right, &after);
+        }
         right.number
+    }
+
+    /// The end gives what one Rewind over the same bytes gives.
+    fn rewind_in_steps(&mut self, r: &Record, keep: u64, h: &[u8], roll: &[u8], one: Outcome, after: &[u8]) {
+        let begun = hand_back_all(*r, h);
+        let right = if one.number == ACCEPTED { one } else { Outcome::refused(one.number, &begun) };
+        let mut lent = Lent::new(roll);
+        assert_eq!(compare::end_roll(begun, keep, lent.roll()), right);
+        lent.assert_is(after, "an end");
+        self.script(&begun, roll, format!("endroll {keep}"), "endroll", &right, after);
     }
 
     /// Both calls with nothing to do for them but to test the roll: an empty piece, and the held bytes handed back and kept.
@@ -171,7 +182,7 @@ impl Calls {
 
     fn script(&mut self, r: &Record, roll: &[u8], line: String, name: &str, right: &Outcome, after: &[u8]) {
         if roll.len() <= LONG_ROLL {
-            self.script.call(record_line(r).replacen("record", "set", 1), "set");
+            self.script.call(set_line(r), "set");
             self.script.call(format!("rollset {}", hex(roll)), "rollset");
             self.script.call(line, format!("{name} {} {}", right.number, right.count));
             self.script.call("record", record_line(&right.next));
@@ -201,36 +212,9 @@ impl Calls {
         self.record::<W>(checkpoints * interval::<W>() + past)
     }
 
-    /// A roll with so many links, in slots at random. All other bytes are random, as in slots that were taken before.
     fn roll<W: Word>(&mut self, slots: usize, links: usize) -> Vec<u8> {
-        let w = W::BITS as u64;
-        let mut roll = self.random.bytes(roll::roll_bytes(w, slots));
-        let mut left: Vec<usize> = (1..=slots).collect();
-        let mut last = 0;
-        for _ in 0..links {
-            let slot = left.swap_remove(self.below(left.len()));
-            roll::set_index(w, &mut roll, last, slot);
-            last = slot;
-        }
-        roll::set_index(w, &mut roll, last, 0);
-        roll
+        roll::random_roll(W::BITS as u64, slots, links, &mut self.random)
     }
-}
-
-/// A test at each word size.
-macro_rules! at_both_word_sizes {
-    ($($test:ident)*) => {
-        $(mod $test {
-            #[test]
-            fn w32() {
-                super::$test::<u32>();
-            }
-            #[test]
-            fn w64() {
-                super::$test::<u64>();
-            }
-        })*
-    };
 }
 
 at_both_word_sizes! { lengths cycles indexes_beyond numbers_of_links full_rolls rolls_of_any_kind cuts damaged_rolls refusals }

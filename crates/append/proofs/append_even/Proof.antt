@@ -21,15 +21,15 @@ take-whole-requires c κs =
     let s = sounds (z .args .r) (z .pre .0) in
     (s .word, chain-is _ _ (s .word) (words z) (s .below))
 
-add-sum : tie.Need-add-sum
+add-r : tie.Need-add-r
 unfolding limit
-add-sum c = record { fits = omega (arith, c .before .before .before .before .before .pre .1) }
+add-r c = record { fits = omega (arith, c .before .before .before .before .before .before .pre .1) }
 
 returns : tie.Need-returns
 returns c =
-    let z = c .before .before .before .before .before in
-    let t = c .before .before .take-whole in
+    let z = c .before .before .before .before .before .before in
+    let t = c .before .before .before .take-whole in
     rw (t .ensures .0, t .ensures .1, t .ensures .2) (sym (even (z .args .r) (z .pre .0) (long z) (z .args .piece .now) (z .pre .2)))
 
 pub append-even-spec : {M : Type 1} → statement M
-append-even-spec = tie.close (tie.spec take-whole-requires add-sum returns)
+append-even-spec = tie.close (tie.spec take-whole-requires add-r returns)

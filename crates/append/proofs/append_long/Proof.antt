@@ -76,34 +76,34 @@ take-whole-requires c κs =
           (forwards-chain (sizeOf (R z .w)) (amounts (R z .w)) _ (R z .chain) (chain z)),
     )
 
-add-count : tie.Need-add-count
+add-r : tie.Need-add-r
 unfolding limit
-add-count c =
-    let a = c .before .before .before .before .before .before .before .before in
+add-r c = record { fits = omega (arith, Z (c .before .before .before .before .before .before .before .before .before .before) .pre .1) }
+
+add-t24 : tie.Need-add-t24
+unfolding limit
+add-t24 c =
+    let a = c .before .before .before .before .before .before .before .before .before .before .before in
     let z = Z a in
     let B : ℕ = blockBytes (sizeOf (R z .w)) in
     record {
       fits =
           omega (
             arith,
-            c .before .take-whole .ensures .1 ∙ ap (λ (s : List ℕ). length s / B) (from-place (P z) (k a)),
+            c .before .before .before .before .take-whole .ensures .1 ∙ ap (λ (s : List ℕ). length s / B) (from-place (P z) (k a)),
             length-drop (k a) (P z),
             div-le-self (length (drop (k a) (P z))) B,
             z .pre .1,
           );
     }
 
-add-sum : tie.Need-add-sum
-unfolding limit
-add-sum c = record { fits = omega (arith, Z (c .before .before .before .before .before .before .before .before .before .before) .pre .1) }
-
 returns : tie.Need-returns
 returns c =
-    let a = c .before .before .before .before .before .before .before .before .before .before in
+    let a = c .before .before .before .before .before .before .before .before .before .before .before in
     let z = Z a in
-    let t = c .before .before .before .take-whole in
-    let f = c .before .before .before .before .before .before .forward in
-    let u = c .before .before .before .before .before .before .before .before .put in
+    let t = c .before .before .before .before .take-whole in
+    let f = c .before .before .before .before .before .before .before .forward in
+    let u = c .before .before .before .before .before .before .before .before .before .put in
     rw (
       t .ensures .0,
       t .ensures .1,
@@ -133,6 +133,6 @@ append-long-spec =
     (λ c. search needs)
     (λ c. search needs)
     take-whole-requires
-    add-count
-    add-sum
+    add-r
+    add-t24
     returns)

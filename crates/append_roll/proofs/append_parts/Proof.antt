@@ -170,7 +170,7 @@ module _ (c : tie.After-loop Inv-loop μ-loop) where
   rest-is = from-place (P Y) E
 
   there : (order : Record)
-      → order ≡ record { w = R Y .w; n = R Y .n; total = R Y .total + E; chain = c .before .loop .p .chain; held = heldOf [] }
+      → order ≡ record { w = R Y .w; n = R Y .n; total = R Y .total + E; chain = c .before .loop .p .chain; held = heldOf []; split = R Y .split }
       → order ≡ appended (R Y) (take E (P Y))
   there order made =
       let p = c .before .loop .inv in
@@ -198,7 +198,7 @@ returns-2 c =
     let l = c .before .before in
     let z = Y l in
     let p = l .before .loop .inv in
-    let made : Record = record { w = R z .w; n = R z .n; total = R z .total + E l; chain = l .before .loop .p .chain; held = heldOf [] } in
+    let made : Record = record { w = R z .w; n = R z .n; total = R z .total + E l; chain = l .before .loop .p .chain; held = heldOf []; split = R z .split } in
     let less : length (P z) < E l + step (R z .w) = omega (arith, p .stage .upTo, step-is (l .before)) in (
       c .last-part .ensures made refl
           ∙ parted-end (R z) (P z) (pass z .taken) (words z) (long z) (S z) (pass z) (rest-first (l .before) .0) p _ (rest-is l) (there l made refl),

@@ -24,34 +24,31 @@ module _ (c : tie.After-zero-bytes) where
   abbrev at-start : tie.Start
   at-start = c .before .before .before
 
-  abbrev order : Record
-  order =
+  abbrev orderWith : List ℕ → Record
+  orderWith held =
       record {
         w = at-start .args .r .w;
         n = at-start .args .r .n;
         total = at-start .args .r .total + at-start .args .at;
         chain = at-start .args .p .chain;
-        held = c .zero-bytes .result;
+        held = held;
+        split = at-start .args .r .split;
       }
 
-  order-is : order
-      ≡ record { w = at-start .args .r .w; n = at-start .args .r .n; total = at-start .args .r .total + at-start .args .at; chain = at-start .args .p .chain; held = heldOf [] }
-  order-is = λ i. record {
-    w = at-start .args .r .w;
-    n = at-start .args .r .n;
-    total = at-start .args .r .total + at-start .args .at;
-    chain = at-start .args .p .chain;
-    held = none-held (c .zero-bytes .result) (c .zero-bytes .ensures) i;
-  }
+  abbrev order : Record
+  order = orderWith (c .zero-bytes .result)
 
-add-total : tie.Need-add-t11
+  order-is : order ≡ orderWith (heldOf [])
+  order-is = ap orderWith (none-held (c .zero-bytes .result) (c .zero-bytes .ensures))
+
+add-total : tie.Need-add-r
 unfolding limit
 add-total c = record { fits = omega (arith, c .before .before .before .before .pre .0) }
 
-add-count : tie.Need-add-t10
+add-count : tie.Need-add-o
 unfolding limit
 add-count c =
-    let a = c .before .before .before in
+    let a = c .before .before in
     let y = a .before .before in
     let z = at-start y in
     record {
@@ -75,8 +72,8 @@ last-part-spec =
     (λ c κs. (at-start (c .before) .pre .2 (order (c .before)) (order-is (c .before)), at-start (c .before) .pre .0))
     add-count
     (λ c other is.
-    let a = c .before .before .before in
+    let a = c .before .before in
     let y = a .before .before in
     let z = at-start y in
-    ap (λ (o : Outcome). record { number = 0; count = z .args .p .count + (o .count); next = o .next })
+    ap (λ (o : Outcome). record { number = o .number; count = z .args .p .count + (o .count); next = o .next })
     (a .accepted .ensures ∙ ap (λ (r : Record). appendAccepted r (z .args .part .now)) (order-is y ∙ sym is))))

@@ -37,7 +37,13 @@ returns-2 c =
 returns-3 : tie.Need-returns-3
 unfolding openCall opened heldOf
 returns-3 c =
-    rw (word-passed (c .before .before .before .before), digest-passed (c .before .before), c .before .opening .ensures, c .zero-bytes .ensures)
+    rw (
+      word-passed (c .before .before .before .before .before),
+      digest-passed (c .before .before .before),
+      c .before .before .opening .ensures,
+      c .before .zero-bytes .ensures,
+      c .not-begun .ensures,
+    )
 
 pub open-spec : {M : Type 1} → statement M
 open-spec =
@@ -52,5 +58,6 @@ open-spec =
     (λ c κs. search needs)
     returns-2
     (λ c κs. (word-passed (c .before .before), digest-most _ _ (digest-passed c)))
+    (λ c κs. search needs)
     (λ c κs. search needs)
     returns-3)

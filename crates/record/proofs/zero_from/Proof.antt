@@ -1,19 +1,17 @@
--- `record::zero_from` meets its contract: before turn i the bytes before place i are 0. Assumes nothing.
-use mathlib.Core.Path.{_≡_, refl, _∙_}
+-- `record::zero_from` meets its contract: before turn i the flag says whether the bytes before place i are 0. Assumes nothing.
+use mathlib.Core.Path.{refl}
 use Prim.Native.Nat.{_-_}
 use native.Mathlib.Omega.{arith}
-use lib.ListN.{length, drop, getD, drop-of-length-le}
-use borrow.Author.Tests.{eq-eqb, ne-eqb}
-use Rattle.record.specs.Record.{allZero}
-use Rattle.record.proofs.Lists.{zero-at}
+use lib.ListN.{length}
+use Rattle.record.proofs.Lists.{Zeros, zeros-more, zeros-all}
 use Rattle.record.proofs.zero_from.Statement.{statement}
 use Rattle.record.proofs.zero_from.Tie as tie
 
 abbrev Inv-loop : tie.InvT-loop
-Inv-loop s at i₀ i = allZero (drop at s) ≡ allZero (drop i s)
+Inv-loop s at zero₀ i₀ zero i = Zeros s at zero i
 
 abbrev μ-loop : tie.MeasureT-loop
-μ-loop s at i₀ i = length s - i
+μ-loop s at zero₀ i₀ zero i = length s - i
 
 pub zero-from-spec : {M : Type 1} → statement M
 zero-from-spec =
@@ -23,14 +21,11 @@ zero-from-spec =
     μ-loop
     (λ c. refl)
     (λ c. omega arith)
-    (λ c.
-    let l = c .before .before .before in
-    let s = l .before .args .s .now in
-    rw (l .loop .inv, zero-at s (l .loop .i) (omega arith), ne-eqb (getD s (l .loop .i) 0) 0 (c .if1 .taken)))
     (λ c. omega arith)
     (λ c. omega arith)
     (λ c.
-    let l = c .before .before .before in
-    let s = l .before .args .s .now in
-    l .loop .inv ∙ rw (zero-at s (l .loop .i) (omega arith), eq-eqb (getD s (l .loop .i) 0) 0 (c .if1 .left)))
-    (λ c. rw (c .before .loop .inv, drop-of-length-le (c .before .before .args .s .now) {i = c .before .loop .i} (omega arith))))
+    let l = c .before .before in
+    zeros-more (l .before .args .s .now) (l .before .args .at) (l .loop .zero) (l .loop .i) (l .loop .inv) (omega arith))
+    (λ c.
+    let l = c .before in
+    zeros-all (l .before .args .s .now) (l .before .args .at) (l .loop .zero) (l .loop .i) (l .loop .inv) (omega arith)))

@@ -12,7 +12,6 @@ use Rattle.record.specs.declared.Record.{Record}
 use Rattle.record.specs.Record.{heldLength, heldBytes}
 use Rattle.record.proofs.Held.{fill-in}
 use Rattle.rewind.specs.Rewind.{heldDiffers}
-use Rattle.rewind.proofs.Lengths.{on-block, fill-le}
 use Rattle.rewind.proofs.held_differs.Statement.{statement}
 use Rattle.rewind.proofs.held_differs.Tie as tie
 
@@ -27,7 +26,7 @@ module _ (z : tie.Start) where
   long = search needs
 
   within : {k : ℕ} → k ≡ heldLength (R .w) (R .total) → k ≤ length H
-  within is = rw is (fill-le _ (R .total) (length H) (on-block _ (R .total) (length H) (z .pre .1)))
+  within is = rw is (z .pre)
 
   in-held : {k : ℕ} → k ≡ heldLength (R .w) (R .total) → k ≤ length (R .held)
   in-held = fill-in R long

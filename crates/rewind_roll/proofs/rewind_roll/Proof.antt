@@ -1,40 +1,27 @@
--- `rewind_roll::rewind_roll` meets its contract, by the answer. Assumes nothing.
-use mathlib.Core.Path.{ap, _∙_}
-use Prim.Native.Nat.{ℕ}
+-- `rewind_roll::rewind_roll` meets its contract. Assumes nothing.
+use mathlib.Core.Path.{_≡_, sym, ap, _∙_}
 use borrow.Author.Needs.{needs}
-use Rattle.lsh.specs.WordSize.{sizeOf}
-use Rattle.checkpoints.specs.Checkpoints.{unlinked}
+use Rattle.record.specs.declared.Outcome.{Outcome}
 use Rattle.checkpoints.proofs.Form.{roll-of}
-use Rattle.roll.proofs.Walked.{way-count}
-use Rattle.rewind_roll.proofs.Rewinding.{roll-stays, is-roll-of, roll-cut}
+use Rattle.rewind_roll.specs.RewindRoll.{cutRoll, rewoundRoll}
+use Rattle.rewind_roll.proofs.Rewinding.{is-roll-of}
 use Rattle.rewind_roll.proofs.rewind_roll.Statement.{statement}
 use Rattle.rewind_roll.proofs.rewind_roll.Tie as tie
 
 pub rewind-roll-spec : {M : Type 1} → statement M
+unfolding rewoundRoll
 rewind-roll-spec =
     tie.close
     (tie.spec
     (λ c κs. search needs)
     (λ c κs. search needs)
-    (λ c. search needs)
-    (λ c.
-    let o = c .before .before in
-    let is = o .outcome .ensures _ (o .before .walk .ensures) in
-    (is, roll-stays _ _ _ _ is (c .if1 .taken)))
-    (λ c κs. search needs)
     (λ c κs.
-    let o = c .before .before .before .before .before in
+    let o = c .before in
     let y = o .before .walk .ensures in
-    let r = roll-of _ _ (is-roll-of _ _ _ _ (o .outcome .ensures _ y) (c .before .before .before .if1 .left)) in
-    (r .0, way-count _ _ y (r .0)))
+    (y, λ e. roll-of _ _ (is-roll-of _ _ _ _ (sym (ap (λ (x : Outcome). x .number) (o .outcome .ensures _ y)) ∙ e)) .0))
     (λ c. search needs)
     (λ c.
-    let k = c .before .before .before in
-    let o = k .before .before .before .before .before in
-    let z = o .before .before .before .before .before in
-    let is = o .outcome .ensures _ (o .before .walk .ensures) in (
-      is,
-      c .before .before .unlink .ensures
-          ∙ ap (λ (m : ℕ). unlinked (sizeOf (z .args .r .w)) m (z .args .roll .now)) (k .checkpoints .ensures)
-          ∙ roll-cut _ _ _ _ is (k .before .before .before .if1 .left),
-    )))
+    let z = c .before .before .before .before .before .before .before .before .before in
+    let o = c .before .before .before .before in
+    let is = o .outcome .ensures _ (o .before .walk .ensures) in
+    (is, c .before .before .cut-roll .ensures ∙ ap (λ (x : Outcome). cutRoll (z .args .r .w) x (z .args .roll .now)) is)))

@@ -15,14 +15,30 @@ pub fn record_after<W: Word>(n: u64, done: usize, mut chain: [W; 16], bytes: &[u
     for block in blocks {
         chain = lsh_ref::forward(&chain, block);
     }
-    let mut held = [0; 256];
-    held[..rest.len()].copy_from_slice(rest);
     let total = (done + bytes.len()) as u64;
-    Record { w: W::BITS as u64, n, total, chain: chain.map(|word| word.to_u64()), held }
+    Record::none_begun(W::BITS as u64, n, total, words(&chain), places(rest))
+}
+
+/// The words of a chain as a record has them.
+pub fn words<W: Word>(chain: &[W; 16]) -> [u64; 16] {
+    chain.map(|word| word.to_u64())
+}
+
+/// These bytes at the front of 256 places, the others zero.
+pub fn places(bytes: &[u8]) -> [u8; 256] {
+    let mut places = [0; 256];
+    places[..bytes.len()].copy_from_slice(bytes);
+    places
 }
 
 /// The line that shows a record.
 pub fn record_line(r: &Record) -> String {
-    let words: String = r.chain.iter().map(|word| format!("{word:016x}")).collect();
-    format!("record {} {} {} {words} {}", r.w, r.n, r.total, hex(&r.held))
+    let words = |chain: &[u64; 16]| chain.iter().map(|word| format!("{word:016x}")).collect::<String>();
+    let order = format!("{} {} {} {} {}", r.w, r.n, r.total, words(&r.chain), hex(&r.held));
+    format!("record {order} {} {} {} {}", r.mark, words(&r.second), hex(&r.back), r.blocks)
+}
+
+/// The line that makes a record the program's.
+pub fn set_line(r: &Record) -> String {
+    record_line(r).replacen("record", "set", 1)
 }

@@ -1,0 +1,2 @@
+-- Laws of the end of a split rewind with a roll.
+pub mod Ending

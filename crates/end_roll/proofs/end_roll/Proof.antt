@@ -1,0 +1,28 @@
+-- `end_roll::end_roll` meets its contract. Assumes nothing.
+use mathlib.Core.Path.{_≡_, sym, ap, _∙_}
+use borrow.Author.Needs.{needs}
+use Rattle.record.specs.declared.Outcome.{Outcome}
+use Rattle.checkpoints.proofs.Form.{roll-of}
+use Rattle.rewind_roll.specs.RewindRoll.{cutRoll}
+use Rattle.end_roll.specs.EndRoll.{endedRoll}
+use Rattle.end_roll.proofs.Ending.{is-roll-of}
+use Rattle.end_roll.proofs.end_roll.Statement.{statement}
+use Rattle.end_roll.proofs.end_roll.Tie as tie
+
+pub end-roll-spec : {M : Type 1} → statement M
+unfolding endedRoll
+end-roll-spec =
+    tie.close
+    (tie.spec
+    (λ c κs. search needs)
+    (λ c κs. search needs)
+    (λ c κs.
+    let o = c .before in
+    let y = o .before .walk .ensures in
+    (y, λ e. roll-of _ _ (is-roll-of _ _ _ (sym (ap (λ (x : Outcome). x .number) (o .outcome .ensures _ y)) ∙ e)) .0))
+    (λ c. search needs)
+    (λ c.
+    let z = c .before .before .before .before .before .before .before .before in
+    let o = c .before .before .before .before in
+    let is = o .outcome .ensures _ (o .before .walk .ensures) in
+    (is, c .before .before .cut-roll .ensures ∙ ap (λ (x : Outcome). cutRoll (z .args .r .w) x (z .args .roll .now)) is)))

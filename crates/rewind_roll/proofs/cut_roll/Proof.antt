@@ -1,0 +1,28 @@
+-- `rewind_roll::cut_roll` meets its contract, by the answer. Assumes nothing.
+use mathlib.Core.Path.{ap, _∙_}
+use Prim.Native.Nat.{ℕ}
+use borrow.Author.Needs.{needs}
+use Rattle.lsh.specs.WordSize.{sizeOf}
+use Rattle.checkpoints.specs.Checkpoints.{unlinked}
+use Rattle.roll.proofs.Walked.{way-count}
+use Rattle.rewind_roll.proofs.Rewinding.{roll-stays, roll-cut}
+use Rattle.rewind_roll.proofs.cut_roll.Statement.{statement}
+use Rattle.rewind_roll.proofs.cut_roll.Tie as tie
+
+pub cut-roll-spec : {M : Type 1} → statement M
+cut-roll-spec =
+    tie.close
+    (tie.spec
+    (λ c. let z = c .before .before .before in roll-stays (z .args .w) (z .args .o) (z .args .roll .now) (c .if1 .taken))
+    (λ c κs. search needs)
+    (λ c κs.
+    let z = c .before .before .before .before .before .before in
+    let is = z .pre .1 (c .before .before .before .if1 .left) in
+    (is, way-count _ _ (z .pre .0) is))
+    (λ c. search needs)
+    (λ c.
+    let z = c .before .before .before .before .before .before .before .before .before in
+    let k = c .before .before .before .before in
+    c .before .before .unlink .ensures
+    ∙ ap (λ (m : ℕ). unlinked (sizeOf (z .args .w)) m (z .args .roll .now)) (k .checkpoints .ensures)
+    ∙ roll-cut (z .args .w) (z .args .o) (z .args .roll .now) (c .before .before .before .before .before .before .if1 .left)))

@@ -1,0 +1,2 @@
+-- Laws of split rewinds.
+pub mod Lengths

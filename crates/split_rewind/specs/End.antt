@@ -1,0 +1,28 @@
+-- End: of the bytes handed back in steps the first keep remain.
+-- Assumes nothing.
+use mathlib.Core.Bool.{not, cond}
+use mathlib.Core.List.{List}
+use Prim.Native.Nat.{ℕ, _+_, _*_}
+use lib.Dec.{eqb}
+use lib.ListN.{take}
+use Rattle.lsh.specs.WordSize.{sizeOf, blockBytes}
+use Rattle.record.specs.declared.Record.{Record}
+use Rattle.record.specs.declared.Outcome.{Outcome}
+use Rattle.record.specs.Record.{heldLength, heldBytes, sound, isBegun, refused}
+use Rattle.rewind.specs.Rewind.{keepsTooMuch, woundBack}
+
+-- how many bytes were handed back: the blocks, and the held bytes
+unfoldable pub handed : Record → ℕ
+handed r = r .split .blocks * blockBytes (sizeOf (r .w)) + heldLength (r .w) (r .total)
+
+-- those whose first remain: the block handed back last, or the held bytes if none was
+unfoldable pub lastBytes : Record → List ℕ
+lastBytes r = cond (eqb (r .split .blocks) 0) (heldBytes r) (take (blockBytes (sizeOf (r .w))) (r .split .back))
+
+-- End: 3 if the record is not sound, then 17 if none is begun, 7, 9, else 0
+unfoldable pub endCall : Record → ℕ → Outcome
+endCall r keep =
+    cond (not (sound r)) (refused 3 r)
+    (cond (not (isBegun r)) (refused 17 r)
+    (cond (keepsTooMuch (blockBytes (sizeOf (r .w))) keep (handed r)) (refused 7 r)
+    (woundBack r (handed r) keep (r .split .second) (lastBytes r))))

@@ -1,0 +1,146 @@
+// A rewind that is split into steps: begin with the held bytes, hand back one whole block at a time from the last, and end with the number of bytes
+// to keep, or abandon it. Until the end the record is still that of the order before the rewind.
+ghost use mathlib.Core.Path.{_≡_};
+ghost use mathlib.Core.Bool.{true, false};
+ghost use lib.ListN.{length};
+ghost use Rattle.lsh.specs.WordSize.{sizeOf, blockBytes};
+ghost use Rattle.record.specs.Record.{sound, isBegun};
+ghost use Rattle.rewind.specs.Rewind.{keepsTooMuch, woundBack};
+ghost use Rattle.split_rewind.specs.Begin.{beginCall};
+ghost use Rattle.split_rewind.specs.HandBack.{noBlock, handedBack, handBackCall};
+ghost use Rattle.split_rewind.specs.End.{handed, lastBytes, endCall};
+ghost use Rattle.split_rewind.specs.Abandon.{abandonCall};
+use record::Outcome;
+use record::Record;
+use record::Split;
+
+// The record with a split rewind begun, by the bytes that it holds.
+pub fn begin(r: Record, bytes: &[u8]) -> Outcome
+    ensures { λ o. ⌜ o ≡ beginCall r (now (bytes .entry)) ⌝ }
+{
+    if !record::is_sound(r) {
+        return record::refused(3, r);
+    }
+    if record::is_begun(r) {
+        return record::refused(17, r);
+    }
+    if bytes.len() != record::held_length(r.w, r.total) {
+        return record::refused(6, r);
+    }
+    if rewind::held_differs(r, bytes) {
+        return record::refused(8, r);
+    }
+    let chain = r.chain;
+    let zeros = runs::zero_bytes();
+    let s = Split {
+        mark: 1,
+        second: chain,
+        back: zeros,
+        blocks: 0,
+    };
+    record::stepped(r, s)
+}
+
+// The record with one more block handed back.
+pub fn hand_back(r: Record, block: &[u8]) -> Outcome
+    ensures { λ o. ⌜ o ≡ handBackCall r (now (block .entry)) ⌝ }
+{
+    if !record::is_sound(r) {
+        return record::refused(3, r);
+    }
+    if !record::is_begun(r) {
+        return record::refused(17, r);
+    }
+    let s = r.split;
+    if no_block(r.w, r.total, s.blocks, block.len()) {
+        return record::refused(6, r);
+    }
+    let next = handed_back(r, block);
+    record::stepped(r, next)
+}
+
+// Whether size bytes are not a block, or no whole block remains.
+fn no_block(w: u64, total: u64, blocks: u64, size: usize) -> bool
+    ensures { λ b. ⌜ b ≡ noBlock (blockBytes (sizeOf w)) total blocks size ⌝ }
+{
+    let b = runs::block_bytes(w);
+    if size != b {
+        return true;
+    }
+    total / b as u64 <= blocks
+}
+
+fn handed_back(r: Record, block: &[u8]) -> Split
+    requires { ⌜ (sound r ≡ true) × (isBegun r ≡ true) × (noBlock (blockBytes (sizeOf (r .w))) (r .total) (r .split .blocks) (length (now block)) ≡ false) ⌝ }
+    ensures { λ s. ⌜ s ≡ handedBack r (now (block .entry)) ⌝ }
+{
+    let s = r.split;
+    let second = s.second;
+    let run = runs::backward(r.w, second, block);
+    let c = run.chain;
+    let back = record::hold(block);
+    Split {
+        mark: 1,
+        second: c,
+        back: back,
+        blocks: s.blocks + 1,
+    }
+}
+
+// The record of what remains, where the first keep of the bytes handed back are kept.
+pub fn end(r: Record, keep: u64) -> Outcome
+    ensures { λ o. ⌜ o ≡ endCall r keep ⌝ }
+{
+    if !record::is_sound(r) {
+        return record::refused(3, r);
+    }
+    if !record::is_begun(r) {
+        return record::refused(17, r);
+    }
+    let size = handed(r);
+    if rewind::keeps_too_much(r.w, keep, size) {
+        return record::refused(7, r);
+    }
+    remaining(r, size, keep)
+}
+
+// How many bytes were handed back.
+fn handed(r: Record) -> u64
+    requires { ⌜ (sound r ≡ true) × (isBegun r ≡ true) ⌝ }
+    ensures { λ n. ⌜ n ≡ handed r ⌝ }
+{
+    let s = r.split;
+    s.blocks * runs::block_bytes(r.w) as u64 + record::held_length(r.w, r.total) as u64
+}
+
+// Where the lengths are right: the bytes that remain are those of the block handed back last, or of the held part if none was.
+fn remaining(r: Record, size: u64, keep: u64) -> Outcome
+    requires { ⌜ (sound r ≡ true) × (isBegun r ≡ true) × (size ≡ handed r) × (keepsTooMuch (blockBytes (sizeOf (r .w))) keep size ≡ false) ⌝ }
+    ensures { λ o. ⌜ o ≡ woundBack r size keep (r .split .second) (lastBytes r) ⌝ }
+{
+    let held = r.held;
+    let s = r.split;
+    let second = s.second;
+    let back = s.back;
+    let blocks = s.blocks;
+    if blocks == 0 {
+        let at = record::held_length(r.w, r.total);
+        return rewind::wound_back(r, blocks, size, keep, second, &held[..at]);
+    }
+    let b = runs::block_bytes(r.w);
+    rewind::wound_back(r, blocks, size, keep, second, &back[..b])
+}
+
+// The record before the rewind began.
+pub fn abandon(r: Record) -> Outcome
+    ensures { λ o. ⌜ o ≡ abandonCall r ⌝ }
+{
+    if !record::is_sound(r) {
+        return record::refused(3, r);
+    }
+    if !record::is_begun(r) {
+        return record::refused(17, r);
+    }
+    let none = record::not_begun();
+    record::stepped(r, none)
+}
