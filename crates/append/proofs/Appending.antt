@@ -13,7 +13,8 @@ use Rattle.lsh.specs.Block.{forwards}
 use Rattle.lsh.specs.Padding.{blocksOf, restOf}
 use Rattle.lsh.proofs.Figures.{block-some}
 use Rattle.lsh.proofs.Blocks.{forwards-append}
-use Rattle.lsh.proofs.Padding.{blocks-append, rest-none, blocks-short, rest-short, rest-first}
+use Rattle.lsh.proofs.Padding.{blocks-short, rest-short, rest-first}
+use Rattle.lsh.proofs.Splitting.{blocks-split}
 use Rattle.runs.specs.Limits.{longestBlock}
 use Rattle.runs.proofs.Limits.{block-most}
 use Rattle.runs.proofs.Zeros.{drop-replicate}
@@ -39,8 +40,7 @@ answered r size count chain held =
 forwards-first : (z : WordSize) (s p t : List ℕ) → 0 < blockBytes z → length s ≡ blockBytes z
     → forwards z (blocksOf z (s ++ p)) t ≡ forwards z (blocksOf z p) (forwards z (blocksOf z s) t)
 forwards-first z s p t some e =
-    rw (blocks-append z some s p, rest-none z some s (ap (λ (n : ℕ). n % blockBytes z) e ∙ mod-self (blockBytes z)))
-    (forwards-append z (blocksOf z s) (blocksOf z p) t)
+    rw (blocks-split z some s (ap (λ (n : ℕ). n % blockBytes z) e ∙ mod-self (blockBytes z)) p) (forwards-append z (blocksOf z s) (blocksOf z p) t)
 
 -- how many bytes are held, and how many the block begun has room for
 abbrev pub fill : Record → ℕ

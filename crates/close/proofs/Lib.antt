@@ -2,3 +2,4 @@
 pub mod HeldBytes
 pub mod Answers
 pub mod Messages
+pub mod Unfinished

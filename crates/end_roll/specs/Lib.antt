@@ -1,1 +1,2 @@
 pub mod EndRoll
+pub mod AsOneRewind

@@ -6,7 +6,7 @@ use Prim.Native.Nat.{ℕ, _+_, _-_, _*_, _/_, _%_, _≤_, _<_}
 use native.Mathlib.Nat.{div-add-mod', mul-add-mod-self-right}
 use native.Mathlib.Omega.{arith}
 use lib.Dec.{eqb, ltb, leb}
-use borrow.Author.Tests.{eqb-true, ltb-false, leb-false, not-false}
+use borrow.Author.Tests.{eqb-true, eq-eqb, ltb-false, le-ltb, leb-false, not-false}
 use Rattle.lsh.proofs.Tests.{or-false}
 use Rattle.rewind.specs.Rewind.{startsOffBlock, keepsTooMuch}
 
@@ -20,6 +20,11 @@ unfolding startsOffBlock
 on-block b total size e =
     let p : (ltb total size ≡ false) × (not (eqb ((total - size) % b) 0) ≡ false) = or-false (ltb total size) (not (eqb ((total - size) % b) 0)) e in
     record { fits = ltb-false total size (p .0); whole = eqb-true ((total - size) % b) 0 (not-false (eqb ((total - size) % b) 0) (p .1)) }
+
+-- and back
+pub starts-on : (b total size : ℕ) → OnBlock b total size → startsOffBlock b total size ≡ false
+unfolding startsOffBlock
+starts-on b total size on = rw (le-ltb total size (on .fits), eq-eqb ((total - size) % b) 0 (on .whole))
 
 pub keeps-few : (b keep size : ℕ) → keepsTooMuch b keep size ≡ false → (keep ≤ size) × (keep < b)
 unfolding keepsTooMuch

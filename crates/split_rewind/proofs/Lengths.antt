@@ -2,8 +2,8 @@
 -- Assumes nothing.
 use mathlib.Core.Path.{_≡_, ap, _∙_}
 use mathlib.Core.Bool.{true, false, not}
-use Prim.Native.Nat.{ℕ, _*_, _/_, _%_, _≤_, _<_}
-use native.Mathlib.Nat.{div-add-mod', mul-add-div-right, div-eq-of-lt, mod-lt, mul-le-mul-right}
+use Prim.Native.Nat.{ℕ, _+_, _-_, _*_, _/_, _%_, _≤_, _<_}
+use native.Mathlib.Nat.{add-mul, div-add-mod', mul-add-div-right, div-eq-of-lt, mod-lt, mul-mod-left, mul-le-mul-right}
 use native.Mathlib.Omega.{arith}
 use lib.Dec.{eqb, leb}
 use lib.ListN.{length}
@@ -16,6 +16,7 @@ use Rattle.record.specs.declared.Record.{Record}
 use Rattle.record.specs.Record.{sound, isBegun}
 use Rattle.record.proofs.Sound.{sounds, chain-is}
 use Rattle.record.proofs.Begun.{begun-is}
+use Rattle.rewind.proofs.Lengths.{OnBlock}
 use Rattle.split_rewind.specs.HandBack.{noBlock}
 use Rattle.split_rewind.specs.End.{handed}
 
@@ -25,6 +26,20 @@ unfolding noBlock
 a-block b total blocks size e =
     let p : (not (eqb size b) ≡ false) × (leb (total / b) blocks ≡ false) = or-false (not (eqb size b)) (leb (total / b) blocks) e in
     (eqb-true size b (not-false (eqb size b) (p .0)), leb-false (total / b) blocks (p .1))
+
+-- k blocks and what is past the last whole block: they begin with a block, and so many blocks are before them
+module _ (b total k : ℕ) (le : k ≤ total / b) where
+  pub before-is : total - (k * b + total % b) ≡ (total / b - k) * b
+  before-is =
+      let all : total / b ≡ total / b - k + k = omega (arith, le) in
+      omega (arith, div-add-mod' total b, ap (λ (q : ℕ). q * b) all ∙ add-mul (total / b - k) k b)
+
+  pub blocks-on : OnBlock b total (k * b + total % b)
+  blocks-on =
+      record {
+        fits = omega (arith, mul-le-mul-right b le, div-add-mod' total b);
+        whole = ap (λ (n : ℕ). n % b) before-is ∙ mul-mod-left (total / b - k) b;
+      }
 
 module _ (r : Record) where
   abbrev B : ℕ
@@ -41,7 +56,7 @@ module _ (r : Record) where
     -- no more than the order has
     pub handed-most : handed r ≤ r .total
     unfolding handed
-    handed-most = omega (arith, mul-le-mul-right B (begun-is r ok begun .upTo), div-add-mod' (r .total) B)
+    handed-most = blocks-on B (r .total) (r .split .blocks) (begun-is r ok begun .upTo) .fits
 
     pub second-chain : length (r .split .second) ≡ 16 → Chain (sizeOf (r .w)) (r .split .second)
     second-chain words = chain-is (r .w) (r .split .second) (sounds r ok .word) words (begun-is r ok begun .below)

@@ -1,2 +1,3 @@
 -- Laws of split rewinds.
 pub mod Lengths
+pub mod OneRewind

@@ -1,9 +1,13 @@
 -- A begin and the hand-backs after it, each on the record that the one before returned, and the bytes that they handed back.
 -- Assumes nothing.
 use mathlib.Core.Path.{_≡_}
+use mathlib.Core.Bool.{cond}
 use mathlib.Core.List.{List, [], _∷_, _++_}
 use Prim.Native.Nat.{ℕ}
+use lib.Dec.{eqb}
 use Rattle.record.specs.declared.Record.{Record}
+use Rattle.record.specs.declared.Outcome.{Outcome}
+use Rattle.record.specs.Record.{refused}
 use Rattle.split_rewind.specs.Begin.{beginCall}
 use Rattle.split_rewind.specs.HandBack.{handBackCall}
 
@@ -24,6 +28,10 @@ afterSteps r h bs = afterBlocks (beginCall r h .next) bs
 -- all of these steps are accepted
 unfoldable pub StepsAccepted : Record → List ℕ → List (List ℕ) → Type 0
 StepsAccepted r h bs = (beginCall r h .number ≡ 0) × BlocksAccepted (beginCall r h .next) bs
+
+-- what a call on the record x gives if it answers as another, whose outcome is o: a refusal returns x
+unfoldable pub answeredOn : Record → Outcome → Outcome
+answeredOn x o = cond (eqb (o .number) 0) o (refused (o .number) x)
 
 -- their bytes as in the order: each block stands before what was handed back earlier
 abbrev pub joined : List ℕ → List (List ℕ) → List ℕ

@@ -1,6 +1,5 @@
 -- Demand 3 and what it is made of.
 pub mod Simulation
-pub mod Splitting
 pub mod Steps
 pub mod Chains
 pub mod Orders

@@ -24,16 +24,17 @@ use Rattle.runs.specs.Limits.{isDigestLength, limit}
 use Rattle.equal.proofs.Equal.{equal-self}
 use Rattle.record.specs.declared.Record.{Record}
 use Rattle.record.specs.declared.Outcome.{Outcome}
-use Rattle.record.specs.Record.{sound, heldOf, recordOf, refused}
+use Rattle.record.specs.Split.{notBegun}
+use Rattle.record.specs.Record.{sound, isBegun, heldOf, recordOf, refused}
 use Rattle.record.proofs.Strings.{held-record, record-sound}
 use Rattle.append.specs.Append.{appendAccepted}
 use Rattle.append.proofs.Joins.{append-record}
-use Rattle.rewind.specs.Rewind.{startsOffBlock, keepsTooMuch, heldDiffers, reached, openingDiffers, rewound, rewindCall}
+use Rattle.rewind.specs.Rewind.{startsOffBlock, keepsTooMuch, heldDiffers, reached, openingDiffers, rewound, woundBack, rewindCall}
 use Rattle.rewind.proofs.Lengths.{OnBlock, on-block, keeps-few, total-is, same-fill}
 use Rattle.tape.specs.Sequence.{Given}
-use Rattle.tape.specs.Tape.{Lent, wholeBlocks, tooManyBlocks, stays, tapeAppend, tapeRewind}
+use Rattle.tape.specs.Tape.{Lent, wholeBlocks, tooManyBlocks, stays, tapeAppend, tapeCut, tapeRewind}
 use Rattle.tape.proofs.Simulation.{followed}
-use Rattle.tape.proofs.Splitting.{blocks-split, rest-split, blocks-kept, rest-kept}
+use Rattle.lsh.proofs.Splitting.{blocks-split, rest-split, blocks-kept, rest-kept}
 
 -- a choice that both sides make by the same test, and what holds of both choices
 same-choice : {A B D : Type 0} (f : A → D) (g : B → D) (t : Bool) {x y : A} {u v : B}
@@ -64,7 +65,7 @@ append-kept w lent s p hp kept =
     record { few = omega (arith, length-append s p, ltb-false limit (length s + length p) within); bytes = bytes-append s p (kept .bytes) hp }))
 
 pub rewind-kept : (w : ℕ) (s : List ℕ) (keep size : ℕ) → Kept s → Kept (tapeRewind w s keep size .next)
-unfolding tapeRewind stays
+unfolding tapeRewind tapeCut stays
 rewind-kept w s keep size kept =
     either (λ (g : Given (List ℕ)). Kept (g .next)) (startsOffBlock (blockBytes (sizeOf w)) (length s) size) (λ off. kept)
     (λ on.
@@ -100,7 +101,7 @@ module _ (w : ℕ) (word : isWordSize w ≡ true) where
   -- and that of a Rewind takes them back
   pub rewind-count : (s : List ℕ) (keep size : ℕ)
       → 0 + wholeBlocks w s ≡ tapeRewind w s keep size .answer .count + wholeBlocks w (tapeRewind w s keep size .next)
-  unfolding tapeRewind stays wholeBlocks
+  unfolding tapeRewind tapeCut stays wholeBlocks
   rewind-count s keep size =
       either (λ (g : Given (List ℕ)). 0 + length s / B ≡ g .answer .count + length (g .next) / B) (startsOffBlock B (length s) size) (λ off. refl)
       (λ off.
@@ -175,15 +176,15 @@ module _ (w : ℕ) (word : isWordSize w ≡ true) where
       reached-opening none =
           reached-is ∙ ap (λ (k : ℕ). forwards Z (blocksOf Z (take k s)) O) none ∙ ap (λ (bs : List (List ℕ)). forwards Z bs O) (blocks-short Z some [] some)
 
-      opening-same : openingDiffers (recordOf w n s) h ≡ false
+      opening-same : openingDiffers (recordOf w n s) (length h) (reached (recordOf w n s) h) ≡ false
       unfolding openingDiffers recordOf
       opening-same = go (eqb (length s - length h) 0) refl
         where
-          go : (t : Bool) → eqb (length s - length h) 0 ≡ t → openingDiffers (recordOf w n s) h ≡ false
+          go : (t : Bool) → eqb (length s - length h) 0 ≡ t → openingDiffers (recordOf w n s) (length h) (reached (recordOf w n s) h) ≡ false
           go true e = rw (e, reached-opening (eqb-true (length s - length h) 0 e), equal-self O)
           go false e = rw e
 
-      rewind-next : rewound (recordOf w n s) keep h ≡ recordOf w n (take (length s - length h + keep) s)
+      rewind-next : rewound (recordOf w n s) (length h) keep (reached (recordOf w n s) h) h ≡ recordOf w n (take (length s - length h + keep) s)
       unfolding rewound recordOf
       rewind-next = λ i. record {
         w = w;
@@ -191,11 +192,16 @@ module _ (w : ℕ) (word : isWordSize w ≡ true) where
         total = sym (length-take-le (length s - length h + keep) s (omega (arith, few .0, on .fits))) i;
         chain = (reached-is ∙ ap (λ (bs : List (List ℕ)). forwards Z bs O) (sym (ap (blocksOf Z) remaining ∙ blocks-kept Z some before whole (take keep h) short))) i;
         held = ap heldOf (sym (ap (restOf Z) remaining ∙ rest-kept Z some before whole (take keep h) short)) i;
+        split = notBegun;
       }
 
     module _ (digest : isDigestLength w n ≡ true) (s : List ℕ) (kept : Kept s) where
       pub sound-is : sound (recordOf w n s) ≡ true
       sound-is = record-sound w n s word digest (kept .few)
+
+      pub idle-is : isBegun (recordOf w n s) ≡ false
+      unfolding isBegun recordOf notBegun
+      idle-is = refl
 
       -- an accepted Append gives the count of the tape, and the record of the tape that is left
       pub append-next : (p : List ℕ)
@@ -206,9 +212,9 @@ module _ (w : ℕ) (word : isWordSize w ≡ true) where
       pub rewind-step : (keep : ℕ) (h : List ℕ)
           → (tapeRewind w s keep (length h) .answer .number ≡ 0 → h ≡ drop (length s - length h) s)
           → answered (rewindCall (recordOf w n s) keep h) ≡ followed (recordOf w n) (tapeRewind w s keep (length h))
-      unfolding rewindCall tapeRewind refused stays recordOf
+      unfolding rewindCall woundBack tapeRewind tapeCut refused stays
       rewind-step keep h back =
-          rw sound-is
+          rw (sound-is, idle-is)
           (same-choice answered (followed (recordOf w n)) (startsOffBlock B (length s) (length h)) (λ off. refl)
           (λ off.
           same-choice answered (followed (recordOf w n)) (keepsTooMuch B keep (length h)) (λ much. refl)

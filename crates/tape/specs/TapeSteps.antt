@@ -2,7 +2,7 @@
 -- Assumes nothing.
 use mathlib.Core.Bool.{not, cond}
 use mathlib.Core.List.{List, []}
-use Prim.Native.Nat.{ℕ, zero, suc, _+_, _-_, _*_}
+use Prim.Native.Nat.{ℕ, _+_, _-_, _*_}
 use lib.Dec.{eqb}
 use lib.ListN.{length, take, drop}
 use Rattle.lsh.specs.WordSize.{sizeOf, blockBytes}
@@ -47,9 +47,8 @@ unfoldable pub blockAfter : ℕ → List ℕ → ℕ → List ℕ
 blockAfter w s m = take (blockBytes (sizeOf w)) (drop (m * blockBytes (sizeOf w)) s)
 
 -- with k blocks handed back: the one handed back last, the next after those not yet handed back; none if k is 0
-abbrev pub handedLast : ℕ → List ℕ → ℕ → List ℕ
-handedLast w s zero = []
-handedLast w s (suc k) = blockAfter w s (wholeBlocks w s - suc k)
+unfoldable pub handedLast : ℕ → List ℕ → ℕ → List ℕ
+handedLast w s k = cond (eqb k 0) [] (blockAfter w s (wholeBlocks w s - k))
 
 -- what the record of the tape has of a split rewind: as second chain the opening chain run over the whole blocks not yet handed back
 abbrev pub tapeSplit : ℕ → ℕ → List ℕ → Stage → Split

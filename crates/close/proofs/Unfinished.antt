@@ -1,0 +1,24 @@
+-- Close does not depend on how far a split rewind is.
+-- Assumes nothing.
+use mathlib.Core.Path.{_≡_, ap, _∙_}
+use mathlib.Core.Bool.{true, cond}
+use mathlib.Core.List.{List, _++_}
+use Prim.Native.Nat.{ℕ, _+_, _*_}
+use lib.Dec.{eqb}
+use lib.ListN.{length, drop}
+use Rattle.record.specs.declared.Record.{Record}
+use Rattle.record.specs.declared.Split.{Split}
+use Rattle.record.specs.Record.{sound, heldBytes, withSplit}
+use Rattle.finalization.specs.Receipt.{receiptBytes, receipt}
+use Rattle.close.specs.Close.{closeAnswer, closedDigest, closeOutput}
+
+module _ (r : Record) (s : Split) (ok : sound r ≡ true) (still : sound (withSplit r s) ≡ true) (last e : ℕ) where
+  pub same-answer-unfinished : (size : ℕ) → closeAnswer (withSplit r s) last e size ≡ closeAnswer r last e size
+  unfolding closeAnswer
+  same-answer-unfinished size = rw (ok, still)
+
+  pub same-output-unfinished : (output : List ℕ) → closeOutput (withSplit r s) last e output ≡ closeOutput r last e output
+  unfolding closeOutput closedDigest heldBytes withSplit
+  same-output-unfinished output =
+      ap (λ (a : ℕ). cond (eqb a 0) (receipt (r .w) (r .n) (closedDigest r last e) (8 * r .total + e) ++ drop receiptBytes output) output)
+      (same-answer-unfinished (length output))
