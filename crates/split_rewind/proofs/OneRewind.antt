@@ -205,7 +205,7 @@ module _ (r : Record) (arrays : Arrays r) (ok : sound r ≡ true) (idle : isBegu
               next = record { w = r .w; n = r .n; total = r .total - size + keep; chain = c; held = heldOf t; split = notBegun };
             }
 
-    wound : keep ≤ size → keep < B → woundBack y size keep c (lastBytes y) ≡ answeredOn y (woundBack r size keep c h)
+    pub wound : keep ≤ size → keep < B → woundBack y size keep c (lastBytes y) ≡ answeredOn y (woundBack r size keep c h)
     unfolding woundBack openingDiffers withSplit answeredOn refused
     wound le lt = go (openingDiffers r size c) (same-bytes le lt)
       where
@@ -224,7 +224,7 @@ module _ (r : Record) (arrays : Arrays r) (ok : sound r ≡ true) (idle : isBegu
         go false e = let few = keeps-few B keep size e in wound (few .0) (few .1)
 
     -- the two calls
-    end-is : sound y ≡ true → isBegun y ≡ true → endCall y keep ≡ cond (keepsTooMuch B keep size) (refused 7 y) (woundBack y size keep c (lastBytes y))
+    pub end-is : sound y ≡ true → isBegun y ≡ true → endCall y keep ≡ cond (keepsTooMuch B keep size) (refused 7 y) (woundBack y size keep c (lastBytes y))
     unfolding endCall handed withSplit
     end-is sound-y begun-y = rw (sound-y, begun-y, ← had .size, had .second)
 

@@ -1,75 +1,144 @@
--- Demand 3: after every list of Append and Rewind calls on a newly opened record, with a roll in all of them or in none, refused ones included, the
--- answers with their counts are the tape's, the record is that of the tape, the roll shows the tape's chains, and the blocks run forward are those run
--- backward and the whole blocks that remain.
+-- Demand 3: after every list of Append and Rewind calls and steps of split rewinds on a newly opened record, with a roll in all of them or in none, refused
+-- ones included, the answers with their counts are the tape's, the record is that of the tape, the roll shows the tape's chains, and the blocks run forward
+-- are those run backward and the whole blocks that remain.
 -- Assumes nothing.
 use mathlib.Core.Path.{_≡_, refl, sym, ap, _∙_, subst}
 use mathlib.Core.Bool.{Bool, true, false, not, cond}
 use mathlib.Core.List.{List, [], _∷_, _++_}
-use Prim.Native.Nat.{ℕ, _+_, _/_, zero-le}
+use Prim.Native.Nat.{ℕ, _+_, _-_, _/_, _≤_, zero-le}
 use native.Mathlib.Nat.{zero-div}
 use native.Mathlib.Omega.{arith}
-use lib.Dec.{ltb}
+use lib.Dec.{eqb, ltb}
 use lib.ListN.{length}
 use Rattle.lsh.specs.WordSize.{isWordSize, sizeOf, blockBytes}
 use Rattle.runs.specs.Limits.{isDigestLength, limit}
 use Rattle.record.specs.declared.Record.{Record}
 use Rattle.record.specs.declared.Outcome.{Outcome}
-use Rattle.record.specs.Record.{zeros, recordOf, refused}
+use Rattle.record.specs.Record.{heldLength, zeros, recordOf, withSplit, refused}
 use Rattle.record.specs.Open.{opened, openCall}
 use Rattle.record.proofs.Strings.{record-none}
 use Rattle.rewind.specs.Rewind.{startsOffBlock, keepsTooMuch}
+use Rattle.rewind.proofs.Lengths.{OnBlock, keeps-few}
+use Rattle.split_rewind.specs.HandBack.{noBlock}
+use Rattle.split_rewind.proofs.Lengths.{a-block, blocks-on}
 use Rattle.checkpoints.specs.Roll.{newRoll, spacing, checkpoints}
 use Rattle.checkpoints.proofs.Form.{new-size, new-links, new-shown, new-roll, is-roll-of}
 use Rattle.tape.specs.Sequence.{Given, answers}
-use Rattle.tape.specs.Tape.{Lent, NoRoll, Roll, wholeBlocks, tooManyBlocks, stays, tapeAppend, tapeRewind}
-use Rattle.tape.specs.Calls.{Call, Append, Rewind, Order, orderCall, tapeCall, HandsBack, forwardCount, backwardCount}
+use Rattle.tape.specs.Tape.{Lent, NoRoll, Roll, Tape, plain, wholeBlocks, tooManyBlocks, stays, plainly, tapeAppend, tapeCut, tapeRewind}
+use Rattle.tape.specs.TapeSteps.{moved, tapeBegin, tapeHandBack, tapeHanded, tapeEnd, tapeAbandon, tapeRecord}
+use Rattle.tape.specs.Calls.{Call, Append, Rewind, Begin, HandBack, End, Abandon, Order, orderCall, tapeCall, HandsBack, forwardCount, backwardCount}
 use Rattle.tape.specs.TapeRoll.{tapeChains, RollShows, lentRoll}
 use Rattle.tape.specs.Corrected.{newOrder, orderAfter, orderAnswers, tapeAfter, tapeAnswers, Premise, Corrected, byLength, allByLength}
 use Rattle.tape.proofs.Simulation.{Follows, good-after, calls-follow, counts}
-use Rattle.tape.proofs.Steps.{either, Kept, append-kept, append-count, rewind-kept, rewind-count}
-use Rattle.tape.proofs.Orders.{Shows, append-alone, rewind-alone, append-with, rewind-with}
+use Rattle.tape.proofs.Steps.{either, Kept, append-kept, append-count, take-kept, rewind-kept, cut-count, rewind-count}
+use Rattle.tape.proofs.Tapes.{ShowsTape, on-tape}
+
+-- what holds of the tape throughout: no more blocks are handed back than it has
+pub record KeptTape (w : ℕ) (t : Tape) : Type 0 where
+  pub bytes : Kept (t .bytes)
+  pub upTo : t .number ≤ wholeBlocks w (t .bytes)
+
+plain-kept : (w : ℕ) (s : List ℕ) → Kept s → KeptTape w (plain s)
+unfolding plain
+plain-kept w s kept = record { bytes = kept; upTo = zero-le }
+
+-- one block more is handed back, and those handed back begin with a block
+more : (w : ℕ) (t : Tape) (size : ℕ) → noBlock (blockBytes (sizeOf w)) (length (t .bytes)) (t .number) size ≡ false → t .number + 1 ≤ wholeBlocks w (t .bytes)
+unfolding wholeBlocks
+more w t size one = omega (arith, a-block (blockBytes (sizeOf w)) (length (t .bytes)) (t .number) size one .1)
+
+handed-on : (w : ℕ) (t : Tape) → KeptTape w t → OnBlock (blockBytes (sizeOf w)) (length (t .bytes)) (tapeHanded w t)
+unfolding wholeBlocks tapeHanded
+handed-on w t kept = blocks-on (blockBytes (sizeOf w)) (length (t .bytes)) (t .number) (kept .upTo)
 
 -- each call, by its kind
-pub call-kept : (w : ℕ) (lent : Lent) (s : List ℕ) (c : Call) → Kept s → Kept (tapeCall w lent s c .next)
-call-kept w lent s (Append piece) kept = append-kept w lent s (piece .list) (piece .bytes) kept
-call-kept w lent s (Rewind keep h) kept = rewind-kept w s keep (length (h .list)) kept
-
--- on an order with the record of the tape
-on-record : (w n : ℕ) → isWordSize w ≡ true → isDigestLength w n ≡ true → (lent : Lent) (roll s : List ℕ) (c : Call)
-    → RollShows lent w n s roll → Kept s → HandsBack w s c
-    → Follows (Shows lent w n) (orderCall lent (record { kept = recordOf w n s; roll = roll }) c) (tapeCall w lent s c)
-on-record w n word digest NoRoll roll s (Append piece) shows kept h = append-alone w word n digest s kept (piece .list) roll shows
-on-record w n word digest NoRoll roll s (Rewind keep h) shows kept back = rewind-alone w word n digest s kept keep (h .list) roll back shows
-on-record w n word digest (Roll slots) roll s (Append piece) shows kept h = append-with w word n digest s kept slots roll shows (piece .list)
-on-record w n word digest (Roll slots) roll s (Rewind keep h) shows kept back = rewind-with w word n digest s kept slots roll shows keep (h .list) back
+pub call-kept : (w : ℕ) (lent : Lent) (t : Tape) (c : Call) → KeptTape w t → KeptTape w (tapeCall w lent t c .next)
+unfolding stays plainly moved tapeBegin tapeHandBack tapeEnd tapeAbandon tapeCut
+call-kept w lent t (Append piece) kept =
+    either (λ (g : Given Tape). KeptTape w (g .next)) (t .begun) (λ begun. kept)
+    (λ idle. plain-kept w _ (append-kept w lent (t .bytes) (piece .list) (piece .bytes) (kept .bytes)))
+call-kept w lent t (Rewind keep h) kept =
+    either (λ (g : Given Tape). KeptTape w (g .next)) (t .begun) (λ begun. kept)
+    (λ idle. plain-kept w _ (rewind-kept w (t .bytes) keep (length (h .list)) (kept .bytes)))
+call-kept w lent t (Begin h) kept =
+    either (λ (g : Given Tape). KeptTape w (g .next)) (t .begun) (λ begun. kept)
+    (λ idle.
+    either (λ (g : Given Tape). KeptTape w (g .next)) (not (eqb (length (h .list)) (heldLength w (length (t .bytes))))) (λ other. kept)
+    (λ same. record { bytes = kept .bytes; upTo = zero-le }))
+call-kept w lent t (HandBack block) kept =
+    either (λ (g : Given Tape). KeptTape w (g .next)) (not (t .begun)) (λ idle. kept)
+    (λ begun.
+    either (λ (g : Given Tape). KeptTape w (g .next)) (noBlock (blockBytes (sizeOf w)) (length (t .bytes)) (t .number) (length (block .list))) (λ none. kept)
+    (λ one. record { bytes = kept .bytes; upTo = more w t (length (block .list)) one }))
+call-kept w lent t (End keep) kept =
+    either (λ (g : Given Tape). KeptTape w (g .next)) (not (t .begun)) (λ idle. kept)
+    (λ begun.
+    either (λ (g : Given Tape). KeptTape w (g .next)) (keepsTooMuch (blockBytes (sizeOf w)) keep (tapeHanded w t)) (λ much. kept)
+    (λ few. plain-kept w _ (take-kept (length (t .bytes) - tapeHanded w t + keep) (t .bytes) (kept .bytes))))
+call-kept w lent t Abandon kept =
+    either (λ (g : Given Tape). KeptTape w (g .next)) (not (t .begun)) (λ idle. kept) (λ begun. plain-kept w (t .bytes) (kept .bytes))
 
 call-step : (w n : ℕ) → isWordSize w ≡ true → isDigestLength w n ≡ true → (lent : Lent)
-    → (o : Order) (s : List ℕ) (c : Call) → Shows lent w n o s → Kept s → HandsBack w s c
-    → Follows (Shows lent w n) (orderCall lent o c) (tapeCall w lent s c)
-call-step w n word digest lent o s c shows kept h =
-    subst (λ (r : Record). Follows (Shows lent w n) (orderCall lent (record { kept = r; roll = o .roll }) c) (tapeCall w lent s c)) (sym (shows .kept))
-    (on-record w n word digest lent (o .roll) s c (shows .roll) kept h)
+    → (o : Order) (t : Tape) (c : Call) → ShowsTape lent w n o t → KeptTape w t → HandsBack w lent t c
+    → Follows (ShowsTape lent w n) (orderCall lent o c) (tapeCall w lent t c)
+call-step w n word digest lent o t c shows kept h =
+    subst (λ (r : Record). Follows (ShowsTape lent w n) (orderCall lent (record { kept = r; roll = o .roll }) c) (tapeCall w lent t c)) (sym (shows .kept))
+    (on-tape w word n digest lent (t .bytes) (kept .bytes) (o .roll) (shows .roll) (t .begun) (t .number) (kept .upTo) c h)
 
-call-count : (w : ℕ) → isWordSize w ≡ true → (lent : Lent) (s : List ℕ) (c : Call)
-    → forwardCount c (tapeCall w lent s c .answer) + wholeBlocks w s ≡ backwardCount c (tapeCall w lent s c .answer) + wholeBlocks w (tapeCall w lent s c .next)
-call-count w word lent s (Append piece) = append-count w word lent s (piece .list)
-call-count w word lent s (Rewind keep h) = rewind-count w word s keep (length (h .list))
+-- how a call moves the whole blocks
+abbrev Counts : ℕ → Tape → Call → Given Tape → Type 0
+Counts w t c g = forwardCount c (g .answer) + wholeBlocks w (t .bytes) ≡ backwardCount c (g .answer) + wholeBlocks w (g .next .bytes)
+
+call-count : (w : ℕ) → isWordSize w ≡ true → (lent : Lent) (t : Tape) (c : Call) → KeptTape w t → Counts w t c (tapeCall w lent t c)
+unfolding stays plainly plain moved tapeBegin tapeHandBack tapeEnd tapeAbandon
+call-count w word lent t (Append piece) kept =
+    either (Counts w t (Append piece)) (t .begun) (λ begun. refl) (λ idle. append-count w word lent (t .bytes) (piece .list))
+call-count w word lent t (Rewind keep h) kept =
+    either (Counts w t (Rewind keep h)) (t .begun) (λ begun. refl) (λ idle. rewind-count w word (t .bytes) keep (length (h .list)))
+call-count w word lent t (Begin h) kept =
+    either (Counts w t (Begin h)) (t .begun) (λ begun. refl)
+    (λ idle. either (Counts w t (Begin h)) (not (eqb (length (h .list)) (heldLength w (length (t .bytes))))) (λ other. refl) (λ same. refl))
+call-count w word lent t (HandBack block) kept =
+    either (Counts w t (HandBack block)) (not (t .begun)) (λ idle. refl)
+    (λ begun.
+    either (Counts w t (HandBack block)) (noBlock (blockBytes (sizeOf w)) (length (t .bytes)) (t .number) (length (block .list))) (λ none. refl) (λ one. refl))
+call-count w word lent t (End keep) kept =
+    either (Counts w t (End keep)) (not (t .begun)) (λ idle. refl)
+    (λ begun.
+    either (Counts w t (End keep)) (keepsTooMuch (blockBytes (sizeOf w)) keep (tapeHanded w t)) (λ much. refl)
+    (λ few. cut-count w word (t .bytes) keep (tapeHanded w t) (handed-on w t kept) (keeps-few (blockBytes (sizeOf w)) keep (tapeHanded w t) few)))
+call-count w word lent t Abandon kept = either (Counts w t Abandon) (not (t .begun)) (λ idle. refl) (λ begun. refl)
 
 -- the numbers that the tape gives
-call-by-length : (w : ℕ) (lent : Lent) (s : List ℕ) (c : Call) → byLength (tapeCall w lent s c .answer .number) ≡ true
-unfolding byLength tapeAppend tapeRewind stays
-call-by-length w lent s (Append piece) =
-    either (λ (g : Given (List ℕ)). byLength (g .answer .number) ≡ true) (ltb limit (length s + length (piece .list))) (λ over. refl)
-    (λ within.
-    either (λ (g : Given (List ℕ)). byLength (g .answer .number) ≡ true) (tooManyBlocks lent (wholeBlocks w (s ++ piece .list))) (λ full. refl) (λ room. refl))
-call-by-length w lent s (Rewind keep h) =
-    either (λ (g : Given (List ℕ)). byLength (g .answer .number) ≡ true) (startsOffBlock (blockBytes (sizeOf w)) (length s) (length (h .list))) (λ off. refl)
-    (λ on.
-    either (λ (g : Given (List ℕ)). byLength (g .answer .number) ≡ true) (keepsTooMuch (blockBytes (sizeOf w)) keep (length (h .list))) (λ much. refl) (λ few. refl))
+abbrev ByLength : {S : Type 0} → Given S → Type 0
+ByLength g = byLength (g .answer .number) ≡ true
 
-tape-by-length : (w : ℕ) (lent : Lent) (cs : List Call) (s : List ℕ) → allByLength (answers (tapeCall w lent) s cs) ≡ true
-tape-by-length w lent [] s = refl
-tape-by-length w lent (c ∷ cs) s = rw (call-by-length w lent s c) (tape-by-length w lent cs (tapeCall w lent s c .next))
+call-by-length : (w : ℕ) (lent : Lent) (t : Tape) (c : Call) → ByLength (tapeCall w lent t c)
+unfolding byLength tapeAppend tapeRewind tapeCut stays plainly moved tapeBegin tapeHandBack tapeEnd tapeAbandon
+call-by-length w lent t (Append piece) =
+    either ByLength (t .begun) (λ begun. refl)
+    (λ idle.
+    either ByLength (ltb limit (length (t .bytes) + length (piece .list))) (λ over. refl)
+    (λ within. either ByLength (tooManyBlocks lent (wholeBlocks w (t .bytes ++ piece .list))) (λ full. refl) (λ room. refl)))
+call-by-length w lent t (Rewind keep h) =
+    either ByLength (t .begun) (λ begun. refl)
+    (λ idle.
+    either ByLength (startsOffBlock (blockBytes (sizeOf w)) (length (t .bytes)) (length (h .list))) (λ off. refl)
+    (λ on. either ByLength (keepsTooMuch (blockBytes (sizeOf w)) keep (length (h .list))) (λ much. refl) (λ few. refl)))
+call-by-length w lent t (Begin h) =
+    either ByLength (t .begun) (λ begun. refl)
+    (λ idle. either ByLength (not (eqb (length (h .list)) (heldLength w (length (t .bytes))))) (λ other. refl) (λ same. refl))
+call-by-length w lent t (HandBack block) =
+    either ByLength (not (t .begun)) (λ idle. refl)
+    (λ begun. either ByLength (noBlock (blockBytes (sizeOf w)) (length (t .bytes)) (t .number) (length (block .list))) (λ none. refl) (λ one. refl))
+call-by-length w lent t (End keep) =
+    either ByLength (not (t .begun)) (λ idle. refl)
+    (λ begun. either ByLength (keepsTooMuch (blockBytes (sizeOf w)) keep (tapeHanded w t)) (λ much. refl) (λ few. refl))
+call-by-length w lent t Abandon = either ByLength (not (t .begun)) (λ idle. refl) (λ begun. refl)
+
+tape-by-length : (w : ℕ) (lent : Lent) (cs : List Call) (t : Tape) → allByLength (answers (tapeCall w lent) t cs) ≡ true
+tape-by-length w lent [] t = refl
+tape-by-length w lent (c ∷ cs) t = rw (call-by-length w lent t c) (tape-by-length w lent cs (tapeCall w lent t c .next))
 
 -- a newly opened record, and a new roll
 pub open-accepted : (w n : ℕ) → openCall w n .number ≡ 0 → (isWordSize w ≡ true) × (isDigestLength w n ≡ true)
@@ -81,8 +150,8 @@ open-accepted w n e = tests (isWordSize w) (isDigestLength w n) (record { number
     tests true false o e = absurd (omega arith)
     tests false b o e = absurd (omega arith)
 
-pub empty-kept : Kept []
-empty-kept = record { few = zero-le; bytes = λ i. omega arith }
+empty-kept : (w : ℕ) → KeptTape w (plain [])
+empty-kept w = plain-kept w [] (record { few = zero-le; bytes = λ i. omega arith })
 
 no-checkpoints : (w : ℕ) → checkpoints w 0 ≡ 0
 unfolding checkpoints
@@ -114,19 +183,23 @@ module _ (w n : ℕ) (lent : Lent) (cs : List Call) (accepted : openCall w n .nu
   unfolding openCall
   open-record = rw (word, digest) (sym (record-none w n))
 
-  pub tape-kept : Kept (tapeAfter w lent cs)
+  pub tape-kept : KeptTape w (tapeAfter w lent cs)
   unfolding tapeAfter
-  tape-kept = good-after (tapeCall w lent) Kept (call-kept w lent) cs [] empty-kept
+  tape-kept = good-after (tapeCall w lent) (KeptTape w) (call-kept w lent) cs (plain []) (empty-kept w)
+
+  open-plain : openCall w n .next ≡ tapeRecord w n (plain [])
+  unfolding tapeRecord plain withSplit recordOf
+  open-plain = open-record
 
   -- from the newly opened order on, whose record is that of the empty tape
-  order-follows : Premise w lent cs → (orderAnswers w n lent cs ≡ tapeAnswers w lent cs) × Shows lent w n (orderAfter w n lent cs) (tapeAfter w lent cs)
-  unfolding Premise orderAnswers orderAfter newOrder tapeAnswers tapeAfter
+  order-follows : Premise w lent cs → (orderAnswers w n lent cs ≡ tapeAnswers w lent cs) × ShowsTape lent w n (orderAfter w n lent cs) (tapeAfter w lent cs)
+  unfolding Premise orderAnswers orderAfter newOrder tapeAnswers tapeAfter plain
   order-follows h =
-      calls-follow (tapeCall w lent) Kept (call-kept w lent) (orderCall lent) (HandsBack w) (Shows lent w n) (call-step w n word digest lent)
-      cs (newOrder w n lent) [] (record { kept = open-record; roll = lent-shows w n lent }) empty-kept h
+      calls-follow (tapeCall w lent) (KeptTape w) (call-kept w lent) (orderCall lent) (HandsBack w lent) (ShowsTape lent w n) (call-step w n word digest lent)
+      cs (newOrder w n lent) (plain []) (record { kept = open-plain; roll = lent-shows w n lent }) (empty-kept w) h
 
   pub corrected : Premise w lent cs → Corrected w n lent cs
-  unfolding tapeAnswers tapeAfter wholeBlocks
+  unfolding tapeAnswers tapeAfter wholeBlocks plain
   corrected h =
       record {
         agree = order-follows h .0;
@@ -134,10 +207,15 @@ module _ (w n : ℕ) (lent : Lent) (cs : List Call) (accepted : openCall w n .nu
         shows = order-follows h .1 .roll;
         blocks =
             rw (order-follows h .0)
-            (omega (arith, counts (tapeCall w lent) forwardCount backwardCount (wholeBlocks w) (call-count w word lent) cs [], zero-div (blockBytes (sizeOf w))));
+            (omega (
+              arith,
+              counts (tapeCall w lent) (KeptTape w) (call-kept w lent) forwardCount backwardCount (λ (t : Tape). wholeBlocks w (t .bytes)) (call-count w word lent) cs
+                  (plain []) (empty-kept w),
+              zero-div (blockBytes (sizeOf w)),
+            ));
       }
 
   -- so 3, 8, 9 and 15 are never given
   pub by-length : Premise w lent cs → allByLength (orderAnswers w n lent cs) ≡ true
   unfolding tapeAnswers
-  by-length h = ap allByLength (corrected h .agree) ∙ tape-by-length w lent cs []
+  by-length h = ap allByLength (corrected h .agree) ∙ tape-by-length w lent cs (plain [])

@@ -1,5 +1,5 @@
--- One call on an order whose record is that of a tape, and whose roll, if it has one, shows the tape's chains, answers as the tape does, and leaves
--- an order of which the same holds with the tape that is left.
+-- One Append or Rewind on an order whose record is that of the tape's bytes, and whose roll, if it has one, shows the tape's chains, answers as the tape
+-- does, and leaves an order of which the same holds with the bytes that are left. No split rewind is begun.
 -- Assumes nothing.
 use mathlib.Core.Path.{_≡_, refl, sym, ap, ap₂, _∙_, subst}
 use mathlib.Core.Bool.{Bool, true, false, cond}
@@ -25,16 +25,16 @@ use Rattle.checkpoints.proofs.Shown.{shown-many, unlinked-cut, Cut, Laid, laid-
 use Rattle.checkpoints.proofs.Spacing.{within, no-fewer}
 use Rattle.append_roll.specs.AppendRoll.{due, isFull, appendRollAnswer, appendRollCall, checkpointChain, appendedRoll}
 use Rattle.append_roll.proofs.Answers.{full-is}
-use Rattle.rewind_roll.specs.RewindRoll.{rewindRollCall, rewoundRoll}
+use Rattle.rewind_roll.specs.RewindRoll.{rewindRollCall, cutRoll, rewoundRoll}
 use Rattle.tape.specs.Sequence.{Given}
-use Rattle.tape.specs.Tape.{Lent, NoRoll, Roll, Slots, wholeBlocks, tooManyBlocks, stays, tapeAppend, tapeRewind}
+use Rattle.tape.specs.Tape.{Lent, NoRoll, Roll, Slots, wholeBlocks, tooManyBlocks, stays, tapeAppend, tapeCut, tapeRewind}
 use Rattle.tape.specs.Calls.{Order, given}
 use Rattle.tape.specs.TapeRoll.{tapeChains, TapeRoll, RollShows}
 use Rattle.tape.proofs.Simulation.{Follows}
-use Rattle.tape.proofs.Steps.{either, Kept, sound-is, append-next, rewind-step}
+use Rattle.tape.proofs.Steps.{either, Kept, sound-is, idle-is, append-next, rewind-step}
 use Rattle.tape.proofs.Chains.{chains-length, chains-take, chains-front, chains-cut, chain-appended, appended-chain}
 
--- an order of the tape
+-- an order of the bytes s
 pub record Shows (lent : Lent) (w n : ℕ) (o : Order) (s : List ℕ) : Type 0 where
   pub kept : o .kept ≡ recordOf w n s
   pub roll : RollShows lent w n s (o .roll)
@@ -86,7 +86,7 @@ module _ (w : ℕ) (word : isWordSize w ≡ true) (n : ℕ) (digest : isDigestLe
   pub append-alone : (p roll : List ℕ) → roll ≡ [] → Follows (Shows NoRoll w n) (given (appendCall R p) roll) (tapeAppend w NoRoll s p)
   unfolding appendCall tapeAppend recordOf
   append-alone p roll none =
-      rw (sound-is w word n digest s kept)
+      rw (sound-is w word n digest s kept, idle-is w word n digest s kept)
       (choose (λ (o : Outcome). given o roll) (ltb limit (length s + length p)) (λ over. stay NoRoll 5 roll none) (λ within. go-on NoRoll p roll none))
 
   pub rewind-alone : (keep : ℕ) (h roll : List ℕ)
@@ -124,7 +124,7 @@ module _ (w : ℕ) (word : isWordSize w ≡ true) (n : ℕ) (digest : isDigestLe
       answer-is : appendRollAnswer R (length p) roll
           ≡ cond (ltb limit (length s + length p)) 5 (cond (tooManyBlocks (Roll slots) (wholeBlocks w (s ++ p))) 16 0)
       unfolding appendRollAnswer recordOf
-      answer-is = rw (sound-is w word n digest s kept, shows .isOf, full-test)
+      answer-is = rw (sound-is w word n digest s kept, idle-is w word n digest s kept, shows .isOf, full-test)
 
       abbrev laidRoll : List ℕ
       laidRoll = laidAfter Z (checkpointChain R p) m (due R (length p)) roll
@@ -161,7 +161,7 @@ module _ (w : ℕ) (word : isWordSize w ≡ true) (n : ℕ) (digest : isDigestLe
           (λ room. go-on (Roll slots) p laidRoll (laid-shows room))))
 
     -- the checkpoints past the first x bytes are taken off
-    cut-shows : (x : ℕ) → TapeRoll w n (slots .count) (take x s) (unlinked Z (checkpoints w (length (take x s))) roll)
+    pub cut-shows : (x : ℕ) → TapeRoll w n (slots .count) (take x s) (unlinked Z (checkpoints w (length (take x s))) roll)
     unfolding recordOf
     cut-shows x =
         let t : List ℕ = take x s in
@@ -182,7 +182,7 @@ module _ (w : ℕ) (word : isWordSize w ≡ true) (n : ℕ) (digest : isDigestLe
     woundRoll g = cond (eqb (g .answer .number) 0) (unlinked Z (checkpoints w (length (g .next))) roll) roll
 
     wound-shows : (keep size : ℕ) → TapeRoll w n (slots .count) (tapeRewind w s keep size .next) (woundRoll (tapeRewind w s keep size))
-    unfolding tapeRewind stays
+    unfolding tapeRewind tapeCut stays
     wound-shows keep size =
         either (λ (g : Given (List ℕ)). TapeRoll w n (slots .count) (g .next) (woundRoll g)) (startsOffBlock (blockBytes Z) (length s) size) (λ off. shows)
         (λ on.
@@ -191,11 +191,11 @@ module _ (w : ℕ) (word : isWordSize w ≡ true) (n : ℕ) (digest : isDigestLe
 
     call-is : (keep : ℕ) (h : List ℕ) → rewindRollCall R keep h roll ≡ rewindCall R keep h
     unfolding rewindRollCall
-    call-is keep h = rw (sound-is w word n digest s kept, shows .isOf)
+    call-is keep h = rw (sound-is w word n digest s kept, idle-is w word n digest s kept, shows .isOf)
 
     roll-is : (keep : ℕ) (h : List ℕ) → (tapeRewind w s keep (length h) .answer .number ≡ 0 → h ≡ drop (length s - length h) s)
         → rewoundRoll R keep h roll ≡ woundRoll (tapeRewind w s keep (length h))
-    unfolding rewoundRoll recordOf
+    unfolding rewoundRoll cutRoll recordOf
     roll-is keep h back =
         let e = rewind-step w word n digest s kept keep h back in
         ap (λ (o : Outcome). cond (eqb (o .number) 0) (unlinked Z (checkpoints w (o .next .total)) roll) roll) (call-is keep h)

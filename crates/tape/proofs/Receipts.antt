@@ -1,33 +1,67 @@
--- A corrected order has the receipt of the order that remains.
+-- A corrected order has the receipt of the order that remains, also while a split rewind is unfinished; and the steps of one leave every receipt as it was.
 -- Assumes nothing.
-use mathlib.Core.Path.{_≡_, ap, _∙_}
+use mathlib.Core.Path.{_≡_, sym, ap, _∙_}
+use mathlib.Core.Bool.{true, cond}
 use mathlib.Core.List.{List}
 use Prim.Native.Nat.{ℕ}
 use lib.ListN.{length}
-use mathlib.Core.Bool.{true}
 use Rattle.lsh.specs.WordSize.{isWordSize}
 use Rattle.runs.specs.Limits.{isDigestLength}
 use Rattle.record.specs.declared.Record.{Record}
+use Rattle.record.specs.declared.Split.{Split}
+use Rattle.record.specs.Split.{notBegun}
+use Rattle.record.specs.Record.{sound, withSplit, recordOf}
 use Rattle.record.specs.Open.{openCall}
+use Rattle.split_rewind.specs.OneRewind.{afterSteps, StepsAccepted}
+use Rattle.split_rewind.proofs.OneRewind.{Arrays, begin-is, x-sound, as-before}
 use Rattle.whole.specs.Whole.{wholeAnswer, wholeOutput}
 use Rattle.close.specs.Close.{closeAnswer, closeOutput}
 use Rattle.close.proofs.Messages.{same-answer, same-output}
-use Rattle.tape.specs.Tape.{Lent}
+use Rattle.close.proofs.Unfinished.{same-answer-unfinished, same-output-unfinished}
+use Rattle.tape.specs.Tape.{Lent, Tape}
+use Rattle.tape.specs.TapeSteps.{tapeSplit, tapeRecord}
 use Rattle.tape.specs.Calls.{Call}
 use Rattle.tape.specs.Corrected.{orderAfter, tapeAfter, Premise}
-use Rattle.tape.proofs.Steps.{Kept}
-use Rattle.tape.proofs.Corrected.{open-accepted, tape-kept, corrected}
+use Rattle.tape.proofs.Steps.{sound-is}
+use Rattle.tape.proofs.Tapes.{tape-sound}
+use Rattle.tape.proofs.Corrected.{KeptTape, open-accepted, tape-kept, corrected}
 
--- Close on the record after the calls, and Whole on the bytes of the tape, answer and write the same
+-- Close on the record of a tape, and Whole on its bytes, answer and write the same
+tape-receipt : (w n : ℕ) (t : Tape) → isWordSize w ≡ true → isDigestLength w n ≡ true → KeptTape w t → (last e : ℕ) (output : List ℕ)
+    → (closeAnswer (tapeRecord w n t) last e (length output) ≡ wholeAnswer w n (length (t .bytes)) last e (length output))
+    × (closeOutput (tapeRecord w n t) last e output ≡ wholeOutput w n (t .bytes) last e output)
+unfolding tapeRecord
+tape-receipt w n t word digest kept last e output =
+    let m : List ℕ = t .bytes in
+    let s : Split = cond (t .begun) (tapeSplit w n m (t .number)) notBegun in
+    let ok : sound (recordOf w n m) ≡ true = sound-is w word n digest m (kept .bytes) in
+    let still : sound (withSplit (recordOf w n m) s) ≡ true = tape-sound w word n digest m (kept .bytes) (t .begun) (t .number) (kept .upTo) in (
+      same-answer-unfinished (recordOf w n m) s ok still last e (length output)
+          ∙ same-answer w n m word last e digest (kept .bytes .few) (length output),
+      same-output-unfinished (recordOf w n m) s ok still last e output
+          ∙ same-output w n m word last e digest (kept .bytes .few) (kept .bytes .bytes) output,
+    )
+
+-- the buyer's sentence: after the calls, finished or not
 pub corrected-receipt : (w n : ℕ) (lent : Lent) (cs : List Call) → openCall w n .number ≡ 0 → Premise w lent cs → (last e : ℕ) (output : List ℕ)
-    → (closeAnswer (orderAfter w n lent cs .kept) last e (length output) ≡ wholeAnswer w n (length (tapeAfter w lent cs)) last e (length output))
-    × (closeOutput (orderAfter w n lent cs .kept) last e output ≡ wholeOutput w n (tapeAfter w lent cs) last e output)
+    → (closeAnswer (orderAfter w n lent cs .kept) last e (length output) ≡ wholeAnswer w n (length (tapeAfter w lent cs .bytes)) last e (length output))
+    × (closeOutput (orderAfter w n lent cs .kept) last e output ≡ wholeOutput w n (tapeAfter w lent cs .bytes) last e output)
 corrected-receipt w n lent cs accepted h last e output =
-    let m : List ℕ = tapeAfter w lent cs in
-    let kept : Kept m = tape-kept w n lent cs accepted in
-    let ok : (isWordSize w ≡ true) × (isDigestLength w n ≡ true) = open-accepted w n accepted in (
-      ap (λ (r : Record). closeAnswer r last e (length output)) (corrected w n lent cs accepted h .remains)
-          ∙ same-answer w n m (ok .0) last e (ok .1) (kept .few) (length output),
-      ap (λ (r : Record). closeOutput r last e output) (corrected w n lent cs accepted h .remains)
-          ∙ same-output w n m (ok .0) last e (ok .1) (kept .few) (kept .bytes) output,
+    let ok : (isWordSize w ≡ true) × (isDigestLength w n ≡ true) = open-accepted w n accepted in
+    let same = tape-receipt w n (tapeAfter w lent cs) (ok .0) (ok .1) (tape-kept w n lent cs accepted) last e output in (
+      ap (λ (r : Record). closeAnswer r last e (length output)) (corrected w n lent cs accepted h .remains) ∙ same .0,
+      ap (λ (r : Record). closeOutput r last e output) (corrected w n lent cs accepted h .remains) ∙ same .1,
+    )
+
+-- for any record: after a begin and hand-backs that are accepted, Close answers and writes what it did before them
+pub unfinished-receipt : (r : Record) → Arrays r → (h : List ℕ) (bs : List (List ℕ)) → StepsAccepted r h bs → (last e : ℕ) (output : List ℕ)
+    → (closeAnswer (afterSteps r h bs) last e (length output) ≡ closeAnswer r last e (length output))
+    × (closeOutput (afterSteps r h bs) last e output ≡ closeOutput r last e output)
+unfinished-receipt r arrays h bs accepted last e output =
+    let x : Record = afterSteps r h bs in
+    let back : withSplit x notBegun ≡ r = as-before r arrays h bs accepted in
+    let ok : sound x ≡ true = x-sound r arrays h bs accepted in
+    let still : sound (withSplit x notBegun) ≡ true = ap sound back ∙ begin-is r arrays h bs accepted .ok in (
+      sym (same-answer-unfinished x notBegun ok still last e (length output)) ∙ ap (λ (q : Record). closeAnswer q last e (length output)) back,
+      sym (same-output-unfinished x notBegun ok still last e output) ∙ ap (λ (q : Record). closeOutput q last e output) back,
     )

@@ -38,13 +38,11 @@ module _ {S C : Type 0} (tape : S → C → Given S) (Good : S → Type 0) (keep
           let rest = calls-follow cs (call r c .next) (tape s c .next) (first .shows) (keeps s c good) (h .1) in
           (λ i. first .same i ∷ rest .0 i, rest .1)
 
-module _
-    {S C : Type 0}
-    (tape : S → C → Given S)
-    (forward backward : C → Answer → ℕ)
-    (whole : S → ℕ)
-    (step : (s : S) (c : C) → forward c (tape s c .answer) + whole s ≡ backward c (tape s c .answer) + whole (tape s c .next)) where
-  pub counts : (cs : List C) (s : S)
-      → sum forward cs (answers tape s cs) + whole s ≡ sum backward cs (answers tape s cs) + whole (after tape s cs)
-  counts [] s = refl
-  counts (c ∷ cs) s = omega (arith, step s c, counts cs (tape s c .next))
+  module _
+      (forward backward : C → Answer → ℕ)
+      (whole : S → ℕ)
+      (step : (s : S) (c : C) → Good s → forward c (tape s c .answer) + whole s ≡ backward c (tape s c .answer) + whole (tape s c .next)) where
+    pub counts : (cs : List C) (s : S) → Good s
+        → sum forward cs (answers tape s cs) + whole s ≡ sum backward cs (answers tape s cs) + whole (after tape s cs)
+    counts [] s good = refl
+    counts (c ∷ cs) s good = omega (arith, step s c good, counts cs (tape s c .next) (keeps s c good))

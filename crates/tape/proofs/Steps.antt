@@ -50,7 +50,7 @@ either P false h k = k refl
 abbrev pub answered : Outcome → Given Record
 answered o = record { answer = record { number = o .number; count = o .count }; next = o .next }
 
--- what holds of the tape throughout
+-- what holds of the tape's bytes throughout
 pub record Kept (s : List ℕ) : Type 0 where
   pub few : length s ≤ limit
   pub bytes : Bytes s
@@ -64,17 +64,16 @@ append-kept w lent s p hp kept =
     (λ room.
     record { few = omega (arith, length-append s p, ltb-false limit (length s + length p) within); bytes = bytes-append s p (kept .bytes) hp }))
 
+pub take-kept : (i : ℕ) (s : List ℕ) → Kept s → Kept (take i s)
+take-kept i s kept = record { few = omega (arith, length-take i s, kept .few); bytes = bytes-take i s (kept .bytes) }
+
 pub rewind-kept : (w : ℕ) (s : List ℕ) (keep size : ℕ) → Kept s → Kept (tapeRewind w s keep size .next)
 unfolding tapeRewind tapeCut stays
 rewind-kept w s keep size kept =
     either (λ (g : Given (List ℕ)). Kept (g .next)) (startsOffBlock (blockBytes (sizeOf w)) (length s) size) (λ off. kept)
     (λ on.
     either (λ (g : Given (List ℕ)). Kept (g .next)) (keepsTooMuch (blockBytes (sizeOf w)) keep size) (λ much. kept)
-    (λ few.
-    record {
-      few = omega (arith, length-take (length s - size + keep) s, kept .few);
-      bytes = bytes-take (length s - size + keep) s (kept .bytes);
-    }))
+    (λ few. take-kept (length s - size + keep) s kept))
 
 module _ (w : ℕ) (word : isWordSize w ≡ true) where
   abbrev Z : WordSize
@@ -98,17 +97,11 @@ module _ (w : ℕ) (word : isWordSize w ≡ true) where
       either (λ (g : Given (List ℕ)). g .answer .count + length s / B ≡ 0 + length (g .next) / B) (tooManyBlocks lent (length (s ++ p) / B)) (λ full. refl)
       (λ room. omega (arith, blocks)))
 
-  -- and that of a Rewind takes them back
-  pub rewind-count : (s : List ℕ) (keep size : ℕ)
-      → 0 + wholeBlocks w s ≡ tapeRewind w s keep size .answer .count + wholeBlocks w (tapeRewind w s keep size .next)
-  unfolding tapeRewind tapeCut stays wholeBlocks
-  rewind-count s keep size =
-      either (λ (g : Given (List ℕ)). 0 + length s / B ≡ g .answer .count + length (g .next) / B) (startsOffBlock B (length s) size) (λ off. refl)
-      (λ off.
-      either (λ (g : Given (List ℕ)). 0 + length s / B ≡ g .answer .count + length (g .next) / B) (keepsTooMuch B keep size) (λ much. refl)
-      (λ much.
-      let on : OnBlock B (length s) size = on-block B (length s) size off in
-      let few : (keep ≤ size) × (keep < B) = keeps-few B keep size much in
+  -- and that of a Rewind, or of the end of a split one, takes them back
+  pub cut-count : (s : List ℕ) (keep size : ℕ) → OnBlock B (length s) size → (keep ≤ size) × (keep < B)
+      → 0 + wholeBlocks w s ≡ tapeCut w s keep size .answer .count + wholeBlocks w (tapeCut w s keep size .next)
+  unfolding tapeCut wholeBlocks
+  cut-count s keep size on few =
       let m : ℕ = (length s - size) / B in
       let left : length (take (length s - size + keep) s) ≡ m * B + keep =
       omega (arith, length-take-le (length s - size + keep) s (omega (arith, few .0, on .fits)), total-is B (length s) size on, on .fits) in
@@ -118,7 +111,16 @@ module _ (w : ℕ) (word : isWordSize w ≡ true) where
         none,
         ap (λ (k : ℕ). k / B) (total-is B (length s) size on) ∙ mul-add-div-right some m size,
         ap (λ (k : ℕ). k / B) left ∙ mul-add-div-right some m keep,
-      )))
+      )
+
+  pub rewind-count : (s : List ℕ) (keep size : ℕ)
+      → 0 + wholeBlocks w s ≡ tapeRewind w s keep size .answer .count + wholeBlocks w (tapeRewind w s keep size .next)
+  unfolding tapeRewind stays
+  rewind-count s keep size =
+      either (λ (g : Given (List ℕ)). 0 + wholeBlocks w s ≡ g .answer .count + wholeBlocks w (g .next)) (startsOffBlock B (length s) size) (λ off. refl)
+      (λ off.
+      either (λ (g : Given (List ℕ)). 0 + wholeBlocks w s ≡ g .answer .count + wholeBlocks w (g .next)) (keepsTooMuch B keep size) (λ much. refl)
+      (λ much. cut-count s keep size (on-block B (length s) size off) (keeps-few B keep size much)))
 
   module _ (n : ℕ) where
     abbrev O : List ℕ
@@ -153,7 +155,7 @@ module _ (w : ℕ) (word : isWordSize w ≡ true) where
           ∙ ap (λ (k : ℕ). take (k + keep) (before ++ h)) (sym size)
           ∙ take-append-add before h keep
 
-      reached-is : reached (recordOf w n s) h ≡ forwards Z (blocksOf Z before) O
+      pub reached-is : reached (recordOf w n s) h ≡ forwards Z (blocksOf Z before) O
       unfolding reached recordOf
       reached-is =
           ap (λ (bs : List (List ℕ)). backwards Z (blocksOf Z h) (forwards Z bs O)) (ap (blocksOf Z) joined ∙ blocks-split Z some before whole h)
@@ -161,13 +163,13 @@ module _ (w : ℕ) (word : isWordSize w ≡ true) where
           ∙ backwards-forwards Z (amounts w) (blocksOf Z h) (forwards Z (blocksOf Z before) O)
           (forwards-chain Z (amounts w) (blocksOf Z before) O (opening-chain w n))
 
-      last-bytes : drop (length h - length s % B) h ≡ restOf Z s
+      pub last-bytes : drop (length h - length s % B) h ≡ restOf Z s
       unfolding restOf
       last-bytes =
           let k : length h - length s % B ≡ length h / B * B = omega (arith, same-fill B (length s) (length h) on, div-add-mod' (length h) B) in
           ap (λ (i : ℕ). drop i h) k ∙ sym (ap (restOf Z) joined ∙ rest-split Z some before whole h)
 
-      held-same : heldDiffers (recordOf w n s) h ≡ false
+      pub held-same : heldDiffers (recordOf w n s) h ≡ false
       unfolding heldDiffers recordOf
       held-same = rw (last-bytes, held-record w n s word, equal-self (restOf Z s))
 
@@ -195,6 +197,12 @@ module _ (w : ℕ) (word : isWordSize w ≡ true) where
         split = notBegun;
       }
 
+      -- the answer where the tests before 9 are passed
+      pub cut-next : _≡_ {A = Outcome} (woundBack (recordOf w n s) (length h) keep (reached (recordOf w n s) h) h)
+          (record { number = 0; count = length h / B; next = recordOf w n (take (length s - length h + keep) s) })
+      unfolding woundBack recordOf
+      cut-next = rw (opening-same, rewind-next)
+
     module _ (digest : isDigestLength w n ≡ true) (s : List ℕ) (kept : Kept s) where
       pub sound-is : sound (recordOf w n s) ≡ true
       sound-is = record-sound w n s word digest (kept .few)
@@ -212,7 +220,7 @@ module _ (w : ℕ) (word : isWordSize w ≡ true) where
       pub rewind-step : (keep : ℕ) (h : List ℕ)
           → (tapeRewind w s keep (length h) .answer .number ≡ 0 → h ≡ drop (length s - length h) s)
           → answered (rewindCall (recordOf w n s) keep h) ≡ followed (recordOf w n) (tapeRewind w s keep (length h))
-      unfolding rewindCall woundBack tapeRewind tapeCut refused stays
+      unfolding rewindCall tapeRewind tapeCut refused stays recordOf
       rewind-step keep h back =
           rw (sound-is, idle-is)
           (same-choice answered (followed (recordOf w n)) (startsOffBlock B (length s) (length h)) (λ off. refl)
@@ -222,4 +230,4 @@ module _ (w : ℕ) (word : isWordSize w ≡ true) where
           let on : OnBlock B (length s) (length h) = on-block B (length s) (length h) off in
           let few : (keep ≤ length h) × (keep < B) = keeps-few B keep (length h) much in
           let same : h ≡ drop (length s - length h) s = back (rw (off, much)) in
-          rw (held-same s keep h on few same, opening-same s keep h on few same, rewind-next s keep h on few same))))
+          rw (held-same s keep h on few same, cut-next s keep h on few same))))

@@ -1,6 +1,7 @@
 -- The calls that change an order, on what is kept of it and on the tape, and the premise of demand 3.
 -- Assumes nothing.
 use mathlib.Core.Path.{_≡_}
+use mathlib.Core.Bool.{not, cond}
 use mathlib.Core.List.{List}
 use Prim.Native.Nat.{ℕ, _+_, _-_, _<_}
 use lib.ListN.{length, drop}
@@ -19,8 +20,8 @@ use Rattle.append_roll.specs.AppendRoll.{appendRollCall, appendedRoll}
 use Rattle.rewind_roll.specs.RewindRoll.{rewindRollCall, rewoundRoll}
 use Rattle.end_roll.specs.EndRoll.{endRollCall, endedRoll}
 use Rattle.tape.specs.Sequence.{Answer, Given}
-use Rattle.tape.specs.Tape.{Lent, NoRoll, Roll, Stage, NotBegun, Begun, Tape, wholeBlocks, stays, unsplit, tapeAppend, tapeRewind}
-use Rattle.tape.specs.TapeSteps.{moved, tapeBegin, tapeHandBack, tapeEnd, blockAfter}
+use Rattle.tape.specs.Tape.{Lent, byLent, Tape, wholeBlocks, stays, plainly, tapeAppend, tapeRewind}
+use Rattle.tape.specs.TapeSteps.{tapeBegin, tapeHandBack, tapeEnd, tapeAbandon, blockAfter}
 
 -- a byte string
 pub record ByteString : Type 0 where
@@ -45,49 +46,56 @@ pub record Order : Type 0 where
 unfoldable pub given : Outcome → List ℕ → Given Order
 given o roll = record { answer = record { number = o .number; count = o .count }; next = record { kept = o .next; roll = roll } }
 
--- a call on the order, without a roll or with it; a begin, a hand-back and an abandon take no roll
+-- a call on the order, without a roll or with it; of the steps of a split rewind only the end takes the roll
 abbrev pub orderCall : Lent → Order → Call → Given Order
-orderCall NoRoll o (Append piece) = given (appendCall (o .kept) (piece .list)) (o .roll)
-orderCall NoRoll o (Rewind keep h) = given (rewindCall (o .kept) keep (h .list)) (o .roll)
-orderCall NoRoll o (End keep) = given (endCall (o .kept) keep) (o .roll)
-orderCall (Roll slots) o (Append piece) = given (appendRollCall (o .kept) (piece .list) (o .roll)) (appendedRoll (o .kept) (piece .list) (o .roll))
-orderCall (Roll slots) o (Rewind keep h) = given (rewindRollCall (o .kept) keep (h .list) (o .roll)) (rewoundRoll (o .kept) keep (h .list) (o .roll))
-orderCall (Roll slots) o (End keep) = given (endRollCall (o .kept) keep (o .roll)) (endedRoll (o .kept) keep (o .roll))
+orderCall lent o (Append piece) =
+    byLent lent (given (appendCall (o .kept) (piece .list)) (o .roll))
+    (given (appendRollCall (o .kept) (piece .list) (o .roll)) (appendedRoll (o .kept) (piece .list) (o .roll)))
+orderCall lent o (Rewind keep h) =
+    byLent lent (given (rewindCall (o .kept) keep (h .list)) (o .roll))
+    (given (rewindRollCall (o .kept) keep (h .list) (o .roll)) (rewoundRoll (o .kept) keep (h .list) (o .roll)))
 orderCall lent o (Begin h) = given (beginCall (o .kept) (h .list)) (o .roll)
 orderCall lent o (HandBack block) = given (handBackCall (o .kept) (block .list)) (o .roll)
+orderCall lent o (End keep) =
+    byLent lent (given (endCall (o .kept) keep) (o .roll)) (given (endRollCall (o .kept) keep (o .roll)) (endedRoll (o .kept) keep (o .roll)))
 orderCall lent o Abandon = given (abandonCall (o .kept)) (o .roll)
 
--- a call on the tape of word size w, by how far a split rewind is; 17 to the calls that are not for that
-abbrev pub stageCall : ℕ → Lent → List ℕ → Stage → Call → Given Tape
-stageCall w lent s NotBegun (Append piece) = unsplit (tapeAppend w lent s (piece .list))
-stageCall w lent s NotBegun (Rewind keep h) = unsplit (tapeRewind w s keep (length (h .list)))
-stageCall w lent s NotBegun (Begin h) = tapeBegin w s (length (h .list))
-stageCall w lent s (Begun k) (HandBack block) = tapeHandBack w s k (length (block .list))
-stageCall w lent s (Begun k) (End keep) = tapeEnd w s k keep
-stageCall w lent s (Begun k) Abandon = moved s NotBegun
-stageCall w lent s stage c = stays 17 (record { bytes = s; stage = stage })
+-- a call on the tape of word size w: 17 by the mark, then by the call
+abbrev pub tapeCall : ℕ → Lent → Tape → Call → Given Tape
+tapeCall w lent t (Append piece) = cond (t .begun) (stays 17 t) (plainly (tapeAppend w lent (t .bytes) (piece .list)))
+tapeCall w lent t (Rewind keep h) = cond (t .begun) (stays 17 t) (plainly (tapeRewind w (t .bytes) keep (length (h .list))))
+tapeCall w lent t (Begin h) = cond (t .begun) (stays 17 t) (tapeBegin w t (length (h .list)))
+tapeCall w lent t (HandBack block) = cond (not (t .begun)) (stays 17 t) (tapeHandBack w t (length (block .list)))
+tapeCall w lent t (End keep) = cond (not (t .begun)) (stays 17 t) (tapeEnd w t keep)
+tapeCall w lent t Abandon = cond (not (t .begun)) (stays 17 t) (tapeAbandon t)
 
-unfoldable pub tapeCall : ℕ → Lent → Tape → Call → Given Tape
-tapeCall w lent t c = stageCall w lent (t .bytes) (t .stage) c
-
--- what a call brings that the tape has: a Rewind its last bytes, as many as h has, a begin those after its whole blocks, and a hand-back its last whole
--- block not yet handed back
-abbrev pub Brings : ℕ → List ℕ → Stage → Call → Type 0
-Brings w s stage (Rewind keep h) = h .list ≡ drop (length s - length (h .list)) s
-Brings w s stage (Begin h) = h .list ≡ restOf (sizeOf w) s
-Brings w s (Begun k) (HandBack block) = block .list ≡ blockAfter w s (wholeBlocks w s - (k + 1))
-Brings w s stage c = Unit {0}
+-- what the tape has where a call hands back: for a Rewind its last bytes, as many as h has, for a begin those after its whole blocks, and for a
+-- hand-back its last whole block not yet handed back
+abbrev pub Brings : ℕ → Tape → Call → Type 0
+Brings w t (Append piece) = Unit {0}
+Brings w t (Rewind keep h) = h .list ≡ drop (length (t .bytes) - length (h .list)) (t .bytes)
+Brings w t (Begin h) = h .list ≡ restOf (sizeOf w) (t .bytes)
+Brings w t (HandBack block) = block .list ≡ blockAfter w (t .bytes) (wholeBlocks w (t .bytes) - (t .number + 1))
+Brings w t (End keep) = Unit {0}
+Brings w t Abandon = Unit {0}
 
 -- a call that the tape accepts brings what the tape has there
-unfoldable pub HandsBack : ℕ → Lent → Tape → Call → Type 0
-HandsBack w lent t c = tapeCall w lent t c .answer .number ≡ 0 → Brings w (t .bytes) (t .stage) c
+abbrev pub HandsBack : ℕ → Lent → Tape → Call → Type 0
+HandsBack w lent t c = tapeCall w lent t c .answer .number ≡ 0 → Brings w t c
 
--- the blocks run forward are in the counts of Append, those run backward in the counts of Rewind and of the end of a split rewind
+-- the blocks run forward are in the counts of Append, those run backward in the counts of Rewind and of the ends of split rewinds
 abbrev pub forwardCount : Call → Answer → ℕ
 forwardCount (Append piece) a = a .count
-forwardCount c a = 0
+forwardCount (Rewind keep h) a = 0
+forwardCount (Begin h) a = 0
+forwardCount (HandBack block) a = 0
+forwardCount (End keep) a = 0
+forwardCount Abandon a = 0
 
 abbrev pub backwardCount : Call → Answer → ℕ
+backwardCount (Append piece) a = 0
 backwardCount (Rewind keep h) a = a .count
+backwardCount (Begin h) a = 0
+backwardCount (HandBack block) a = 0
 backwardCount (End keep) a = a .count
-backwardCount c a = 0
+backwardCount Abandon a = 0

@@ -8,7 +8,7 @@ use Prim.Native.Nat.{ℕ, _+_}
 use lib.Dec.{eqb}
 use Rattle.record.specs.Open.{openCall}
 use Rattle.tape.specs.Sequence.{Answer, after, answers, Throughout, sum}
-use Rattle.tape.specs.Tape.{Lent, NotBegun, Tape, wholeBlocks}
+use Rattle.tape.specs.Tape.{Lent, Tape, plain, wholeBlocks}
 use Rattle.tape.specs.TapeSteps.{tapeRecord}
 use Rattle.tape.specs.Calls.{Call, Order, orderCall, tapeCall, HandsBack, forwardCount, backwardCount}
 use Rattle.tape.specs.TapeRoll.{RollShows, lentRoll}
@@ -24,18 +24,15 @@ unfoldable pub orderAnswers : ℕ → ℕ → Lent → List Call → List Answer
 orderAnswers w n lent cs = answers (orderCall lent) (newOrder w n lent) cs
 
 -- the tape after the same calls, and its answers; it is empty at first
-unfoldable pub emptyTape : Tape
-emptyTape = record { bytes = []; stage = NotBegun }
-
 unfoldable pub tapeAfter : ℕ → Lent → List Call → Tape
-tapeAfter w lent cs = after (tapeCall w lent) emptyTape cs
+tapeAfter w lent cs = after (tapeCall w lent) (plain []) cs
 
 unfoldable pub tapeAnswers : ℕ → Lent → List Call → List Answer
-tapeAnswers w lent cs = answers (tapeCall w lent) emptyTape cs
+tapeAnswers w lent cs = answers (tapeCall w lent) (plain []) cs
 
 -- the premise: each Rewind, begin and hand-back that the tape accepts brings the bytes that the tape has there
 unfoldable pub Premise : ℕ → Lent → List Call → Type 0
-Premise w lent cs = Throughout (tapeCall w lent) (HandsBack w lent) emptyTape cs
+Premise w lent cs = Throughout (tapeCall w lent) (HandsBack w lent) (plain []) cs
 
 -- the answers with their counts are the tape's; the record is that of the tape; the roll, if there is one, shows the tape's chains; and the blocks
 -- run forward are those run backward and the whole blocks that remain

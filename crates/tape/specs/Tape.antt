@@ -25,14 +25,20 @@ pub data Lent : Type 0 where
   NoRoll : Lent
   Roll : Slots → Lent
 
--- how far a split rewind is: none is begun (mark 0), or one is (mark 1), and so many blocks were handed back
-pub data Stage : Type 0 where
-  NotBegun : Stage
-  Begun : ℕ → Stage
+-- the first without a roll, the second with it
+abbrev pub byLent : {A : Type 0} → Lent → A → A → A
+byLent NoRoll a b = a
+byLent (Roll slots) a b = b
 
+-- the tape: the bytes, the mark, which says whether a split rewind is begun, and the number of blocks handed back
 pub record Tape : Type 0 where
   pub bytes : List ℕ
-  pub stage : Stage
+  pub begun : Bool
+  pub number : ℕ
+
+-- with no split rewind begun
+unfoldable pub plain : List ℕ → Tape
+plain s = record { bytes = s; begun = false; number = 0 }
 
 -- the whole blocks of the tape
 unfoldable pub wholeBlocks : ℕ → List ℕ → ℕ
@@ -47,9 +53,9 @@ tooManyBlocks (Roll slots) blocks = ltb (slots .count) (blocks / spacing)
 unfoldable pub stays : {S : Type 0} → ℕ → S → Given S
 stays number s = record { answer = record { number = number; count = 0 }; next = s }
 
--- what is given for the bytes alone, where none is begun after it
-unfoldable pub unsplit : Given (List ℕ) → Given Tape
-unsplit g = record { answer = g .answer; next = record { bytes = g .next; stage = NotBegun } }
+-- what is given for the bytes alone, with none begun after it
+unfoldable pub plainly : Given (List ℕ) → Given Tape
+plainly g = record { answer = g .answer; next = plain (g .next) }
 
 unfoldable pub tapeAppend : ℕ → Lent → List ℕ → List ℕ → Given (List ℕ)
 tapeAppend w lent s piece =

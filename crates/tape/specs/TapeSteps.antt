@@ -1,6 +1,6 @@
--- The steps of a split rewind on the tape: its bytes s stay as they are until the end.
+-- The steps of a split rewind on the tape: its bytes stay as they are until the end.
 -- Assumes nothing.
-use mathlib.Core.Bool.{not, cond}
+use mathlib.Core.Bool.{true, not, cond}
 use mathlib.Core.List.{List, []}
 use Prim.Native.Nat.{ℕ, _+_, _-_, _*_}
 use lib.Dec.{eqb}
@@ -16,44 +16,43 @@ use Rattle.record.specs.Record.{heldOf, heldLength, withSplit, recordOf}
 use Rattle.rewind.specs.Rewind.{keepsTooMuch}
 use Rattle.split_rewind.specs.HandBack.{noBlock}
 use Rattle.tape.specs.Sequence.{Given}
-use Rattle.tape.specs.Tape.{Stage, NotBegun, Begun, Tape, wholeBlocks, stays, unsplit, tapeCut}
+use Rattle.tape.specs.Tape.{Tape, plain, wholeBlocks, stays, plainly, tapeCut}
 
--- an accepted step: the answer is 0, the count is 0, and so far the rewind is then
-unfoldable pub moved : List ℕ → Stage → Given Tape
-moved s stage = stays 0 (record { bytes = s; stage = stage })
+-- the same bytes with one begun, and k blocks handed back; the answer is 0 and the count is 0
+unfoldable pub moved : Tape → ℕ → Given Tape
+moved t k = stays 0 (record { bytes = t .bytes; begun = true; number = k })
 
--- size is the length of the bytes that a begin or a hand-back brings, k the number of blocks handed back before
-unfoldable pub tapeBegin : ℕ → List ℕ → ℕ → Given Tape
-tapeBegin w s size =
-    cond (not (eqb size (heldLength w (length s)))) (stays 6 (record { bytes = s; stage = NotBegun }))
-    (moved s (Begun 0))
+-- size is the length of the bytes that the step brings
+unfoldable pub tapeBegin : ℕ → Tape → ℕ → Given Tape
+tapeBegin w t size = cond (not (eqb size (heldLength w (length (t .bytes))))) (stays 6 t) (moved t 0)
 
-unfoldable pub tapeHandBack : ℕ → List ℕ → ℕ → ℕ → Given Tape
-tapeHandBack w s k size =
-    cond (noBlock (blockBytes (sizeOf w)) (length s) k size) (stays 6 (record { bytes = s; stage = Begun k }))
-    (moved s (Begun (k + 1)))
+unfoldable pub tapeHandBack : ℕ → Tape → ℕ → Given Tape
+tapeHandBack w t size = cond (noBlock (blockBytes (sizeOf w)) (length (t .bytes)) (t .number) size) (stays 6 t) (moved t (t .number + 1))
 
 -- how many bytes were handed back
-unfoldable pub tapeHanded : ℕ → List ℕ → ℕ → ℕ
-tapeHanded w s k = k * blockBytes (sizeOf w) + heldLength w (length s)
+unfoldable pub tapeHanded : ℕ → Tape → ℕ
+tapeHanded w t = t .number * blockBytes (sizeOf w) + heldLength w (length (t .bytes))
 
-unfoldable pub tapeEnd : ℕ → List ℕ → ℕ → ℕ → Given Tape
-tapeEnd w s k keep =
-    cond (keepsTooMuch (blockBytes (sizeOf w)) keep (tapeHanded w s k)) (stays 7 (record { bytes = s; stage = Begun k }))
-    (unsplit (tapeCut w s keep (tapeHanded w s k)))
+unfoldable pub tapeEnd : ℕ → Tape → ℕ → Given Tape
+tapeEnd w t keep =
+    cond (keepsTooMuch (blockBytes (sizeOf w)) keep (tapeHanded w t)) (stays 7 t)
+    (plainly (tapeCut w (t .bytes) keep (tapeHanded w t)))
+
+unfoldable pub tapeAbandon : Tape → Given Tape
+tapeAbandon t = stays 0 (plain (t .bytes))
 
 -- the tape's block after the first m
 unfoldable pub blockAfter : ℕ → List ℕ → ℕ → List ℕ
 blockAfter w s m = take (blockBytes (sizeOf w)) (drop (m * blockBytes (sizeOf w)) s)
 
--- with k blocks handed back: the one handed back last, the next after those not yet handed back; none if k is 0
+-- with k blocks handed back: the one handed back last, which is the next after those not yet handed back; none if k is 0
 unfoldable pub handedLast : ℕ → List ℕ → ℕ → List ℕ
 handedLast w s k = cond (eqb k 0) [] (blockAfter w s (wholeBlocks w s - k))
 
--- what the record of the tape has of a split rewind: as second chain the opening chain run over the whole blocks not yet handed back
-abbrev pub tapeSplit : ℕ → ℕ → List ℕ → Stage → Split
-tapeSplit w n s NotBegun = notBegun
-tapeSplit w n s (Begun k) =
+-- what a record of the bytes s has of a split rewind with k blocks handed back: as second chain the opening chain run over the whole blocks not yet
+-- handed back
+unfoldable pub tapeSplit : ℕ → ℕ → List ℕ → ℕ → Split
+tapeSplit w n s k =
     record {
       mark = 1;
       second = forwards (sizeOf w) (firstBlocks (sizeOf w) (wholeBlocks w s - k) s) (opening (sizeOf w) n);
@@ -63,4 +62,4 @@ tapeSplit w n s (Begun k) =
 
 -- the record of the tape: that of its bytes, and how far a split rewind is
 unfoldable pub tapeRecord : ℕ → ℕ → Tape → Record
-tapeRecord w n t = withSplit (recordOf w n (t .bytes)) (tapeSplit w n (t .bytes) (t .stage))
+tapeRecord w n t = withSplit (recordOf w n (t .bytes)) (cond (t .begun) (tapeSplit w n (t .bytes) (t .number)) notBegun)

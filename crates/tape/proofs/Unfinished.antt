@@ -1,0 +1,290 @@
+-- The record of the bytes s with a split rewind begun and k blocks handed back: it is sound, what was handed back are the last bytes of s, and what the
+-- steps make of it.
+-- Assumes nothing.
+use mathlib.Core.Path.{_≡_, refl, sym, ap, ap₂, _∙_, subst}
+use mathlib.Core.Bool.{Bool, true, false, cond, not, _&&_, _||_, false≢true}
+use mathlib.Core.List.{List, [], _∷_, _++_}
+use Prim.Native.Nat.{ℕ, suc, _+_, _-_, _*_, _/_, _%_, _≤_, _<_, zero-le}
+use native.Mathlib.Nat.{sub-zero, zero-mul, one-mul, zero-div, mod-lt, div-add-mod', mul-add-div-right, mul-le-mul-right, suc-mul}
+use native.Mathlib.Numerals.{add-one}
+use native.Mathlib.Omega.{arith}
+use lib.Dec.{eqb}
+use lib.ListN.{length, take, drop, replicate, length-append, length-drop, length-replicate, take-append-drop}
+use lib.Seq.{take-at, take-take, length-take-le}
+use borrow.Author.Tests.{eq-eqb, ne-eqb, eqb-true}
+use Rattle.lsh.specs.WordSize.{WordSize, isWordSize, sizeOf, blockBytes}
+use Rattle.lsh.specs.Bytes.{wordsOf}
+use Rattle.lsh.specs.Block.{Chain, forwards, backwards}
+use Rattle.lsh.specs.Opening.{opening}
+use Rattle.lsh.specs.Padding.{firstBlocks, blocksOf, restOf}
+use Rattle.lsh.proofs.Figures.{amounts, block-some}
+use Rattle.lsh.proofs.Blocks.{forwards-chain, forwards-append, backwards-forwards}
+use Rattle.lsh.proofs.Opening.{opening-chain}
+use Rattle.lsh.proofs.Padding.{firstBlocks-more, firstBlocks-front, blockAt, length-rest, one-block}
+use Rattle.runs.specs.Limits.{longestBlock, isDigestLength}
+use Rattle.runs.proofs.Limits.{block-most}
+use Rattle.runs.proofs.Zeros.{drop-replicate, filled-length}
+use Rattle.runs.specs.ZeroFilled.{zeroFilled}
+use Rattle.equal.specs.Equal.{equal}
+use Rattle.equal.proofs.Equal.{equal-self}
+use Rattle.record.specs.Lists.{allZero}
+use Rattle.record.specs.declared.Record.{Record}
+use Rattle.record.specs.declared.Split.{Split}
+use Rattle.record.specs.declared.Outcome.{Outcome}
+use Rattle.record.specs.Split.{notBegun}
+use Rattle.record.specs.Record.{heldOf, heldLength, heldBytes, sound, isBegun, withSplit, recordOf, refused, stepped}
+use Rattle.record.proofs.Lists.{all-zero}
+use Rattle.record.proofs.Sound.{chain-below}
+use Rattle.record.proofs.Begun.{one-begun-sound, with-sound}
+use Rattle.record.proofs.Strings.{held-record, filled-zero}
+use Rattle.rewind.specs.Rewind.{keepsTooMuch, heldDiffers, reached, woundBack}
+use Rattle.rewind.proofs.Lengths.{OnBlock, keeps-few}
+use Rattle.split_rewind.specs.Begin.{begun}
+use Rattle.split_rewind.specs.HandBack.{handedBack}
+use Rattle.split_rewind.specs.End.{handed, lastBytes, endCall}
+use Rattle.split_rewind.specs.OneRewind.{answeredOn}
+use Rattle.split_rewind.proofs.Lengths.{before-is, blocks-on}
+use Rattle.split_rewind.proofs.OneRewind.{Arrays, Handed, end-is, wound}
+use Rattle.tape.specs.Tape.{wholeBlocks}
+use Rattle.tape.specs.TapeSteps.{blockAfter, handedLast, tapeSplit}
+use Rattle.tape.proofs.Steps.{Kept, sound-is, idle-is, reached-is, last-bytes, cut-next}
+
+module _ (w : ℕ) (word : isWordSize w ≡ true) (n : ℕ) (digest : isDigestLength w n ≡ true) (s : List ℕ) (kept : Kept s) where
+  abbrev Z : WordSize
+  Z = sizeOf w
+
+  abbrev B : ℕ
+  B = blockBytes Z
+
+  abbrev O : List ℕ
+  O = opening Z n
+
+  abbrev R : Record
+  R = recordOf w n s
+
+  -- how many bytes are held, and how many blocks are before them
+  abbrev fill : ℕ
+  fill = length s % B
+
+  abbrev m : ℕ
+  m = length s / B
+
+  some : 0 < B
+  some = block-some w
+
+  ok : sound R ≡ true
+  ok = sound-is w word n digest s kept
+
+  idle : isBegun R ≡ false
+  idle = idle-is w word n digest s kept
+
+  -- a chain over whole blocks of s
+  chain-of : (bs : List (List ℕ)) → Chain Z (forwards Z bs O)
+  chain-of bs = forwards-chain Z (amounts w) bs O (opening-chain w n)
+
+  rest-length : length (restOf Z s) ≡ fill
+  rest-length = length-rest Z some s
+
+  arrays : Arrays R
+  unfolding recordOf notBegun heldOf
+  arrays =
+      record {
+        words = chain-of (blocksOf Z s) .words;
+        long = filled-length longestBlock (restOf Z s) (omega (arith, rest-length, mod-lt (length s) some, block-most w));
+        secondWords = length-replicate {A = ℕ} 16 0;
+        backLong = length-replicate {A = ℕ} longestBlock 0;
+      }
+
+  -- with k blocks handed back
+  module _ (k : ℕ) (le : k ≤ wholeBlocks w s) where
+    abbrev S : Split
+    S = tapeSplit w n s k
+
+    abbrev Y : Record
+    Y = withSplit R S
+
+    abbrev size : ℕ
+    size = k * B + fill
+
+    up-to : k ≤ m
+    unfolding wholeBlocks
+    up-to = le
+
+    on : OnBlock B (length s) size
+    on = blocks-on B (length s) k up-to
+
+    -- the bytes handed back, and those before them
+    abbrev h : List ℕ
+    h = drop (length s - size) s
+
+    h-size : length h ≡ size
+    h-size = omega (arith, length-drop (length s - size) s, on .fits)
+
+    before : length s - size ≡ (m - k) * B
+    before = before-is B (length s) k up-to
+
+    back : h ≡ drop (length s - length h) s
+    back = ap (λ (i : ℕ). drop (length s - i) s) (sym h-size)
+
+    on-h : OnBlock B (length s) (length h)
+    on-h = subst (OnBlock B (length s)) (sym h-size) on
+
+    -- the block handed back last begins h
+    last-is : blockAfter w s (m - k) ≡ take B h
+    unfolding blockAfter
+    last-is = ap (λ (i : ℕ). take B (drop i s)) (sym before)
+
+    none-handed : eqb k 0 ≡ true → handedLast w s k ≡ []
+    unfolding handedLast
+    none-handed e = rw e
+
+    some-handed : eqb k 0 ≡ false → handedLast w s k ≡ take B h
+    unfolding handedLast wholeBlocks
+    some-handed e = rw e last-is
+
+    last-length : eqb k 0 ≡ false → length (take B h) ≡ B
+    last-length e =
+        let other : k ≡ 0 → ⊥ = λ z. false≢true (sym e ∙ eq-eqb k 0 z) in
+        let one : 1 ≤ k = omega (arith, other) in
+        length-take-le B h (omega (arith, h-size, mul-le-mul-right B one, one-mul B))
+
+    -- what is after a block's bytes is zero
+    zero-is : allZero (drop B (heldOf (handedLast w s k))) ≡ true
+    unfolding heldOf
+    zero-is = go (eqb k 0) refl
+      where
+        go : (t : Bool) → eqb k 0 ≡ t → allZero (drop B (zeroFilled longestBlock (handedLast w s k))) ≡ true
+        go true e = rw (none-handed e, drop-replicate B longestBlock 0) (all-zero (longestBlock - B))
+        go false e = rw (some-handed e) (filled-zero longestBlock (take B h) B (last-length e))
+
+    -- with no block handed back the second chain is the first, and no byte was handed back
+    first-is : (not (eqb k 0) || equal (S .second) (R .chain) && allZero (S .back)) ≡ true
+    unfolding tapeSplit recordOf wholeBlocks blocksOf heldOf
+    first-is = go (eqb k 0) refl
+      where
+        go : (t : Bool) → eqb k 0 ≡ t
+            → (not t || equal (forwards Z (firstBlocks Z (m - k) s) O) (forwards Z (firstBlocks Z m s) O) && allZero (zeroFilled longestBlock (handedLast w s k))) ≡ true
+        go true e =
+            let all : m - k ≡ m = omega (arith, eqb-true k 0 e) in
+            rw (all, equal-self (forwards Z (firstBlocks Z m s) O), none-handed e) (all-zero longestBlock)
+        go false e = refl
+
+    -- the blocks before h
+    front-is : blocksOf Z (take (length s - length h) s) ≡ firstBlocks Z (m - k) s
+    unfolding blocksOf
+    front-is =
+        let p : List ℕ = take (length s - length h) s in
+        let l : length p ≡ (m - k) * B = omega (arith, length-take-le (length s - length h) s (omega arith), h-size, before) in
+        let more : length p ≡ (m - k) * B + 0 = omega (arith, l) in
+        let blocks : length p / B ≡ m - k = omega (arith, ap (λ (i : ℕ). i / B) more ∙ mul-add-div-right some (m - k) 0, zero-div B) in
+        let joins : p ++ h ≡ s = ap (λ (t : List ℕ). p ++ t) back ∙ take-append-drop (length s - length h) s in
+        ap (λ (i : ℕ). firstBlocks Z i p) blocks ∙ sym (firstBlocks-front Z (m - k) p h (omega (arith, l))) ∙ ap (firstBlocks Z (m - k)) joins
+
+    second-is : S .second ≡ reached R h
+    unfolding tapeSplit wholeBlocks
+    second-is = sym (reached-is w word n s 0 h on-h (zero-le, some) back ∙ ap (λ (bs : List (List ℕ)). forwards Z bs O) front-is)
+
+    -- with no block handed back h are the held bytes
+    none-more : eqb k 0 ≡ true → restOf Z s ≡ h
+    unfolding restOf
+    none-more e =
+        let all : m ≡ m - k = omega (arith, eqb-true k 0 e) in
+        let from : m * B ≡ length s - size = ap (λ (i : ℕ). i * B) all ∙ sym before in
+        ap (λ (i : ℕ). drop i s) from
+
+    -- the bytes whose first remain begin h
+    last-first : (keep : ℕ) → keep ≤ length h → keep < B → take keep (lastBytes Y) ≡ take keep h
+    unfolding lastBytes tapeSplit withSplit recordOf heldOf heldBytes
+    last-first keep few short = go (eqb k 0) refl
+      where
+        go : (t : Bool) → eqb k 0 ≡ t
+            → take keep (cond t (heldBytes R) (take B (zeroFilled longestBlock (handedLast w s k)))) ≡ take keep h
+        go true e = ap (take keep) (held-record w n s word ∙ none-more e)
+        go false e =
+            ap (take keep) (rw (some-handed e) (take-at (take B h) (replicate (longestBlock - length (take B h)) 0) B (last-length e)))
+            ∙ take-take keep B h (omega (arith, short))
+
+    handed-is : Handed R arrays ok idle h S
+    unfolding tapeSplit recordOf wholeBlocks
+    handed-is =
+        record {
+          one =
+              record {
+                mark = refl;
+                upTo = up-to;
+                below = chain-below w (forwards Z (firstBlocks Z (m - k) s) O) word (chain-of (firstBlocks Z (m - k) s));
+                zero = zero-is;
+                first = first-is;
+              };
+          second = second-is;
+          size = h-size;
+          held = last-bytes w word n s 0 h on-h (zero-le, some) back ∙ sym (held-record w n s word);
+          first = last-first;
+        }
+
+    pub sound-y : sound Y ≡ true
+    unfolding recordOf
+    sound-y = with-sound R S ok (one-begun-sound w (length s) (R .chain) S (handed-is .one))
+
+    pub begun-y : isBegun Y ≡ true
+    unfolding isBegun withSplit tapeSplit
+    begun-y = refl
+
+    -- the end: 7, or the record of what remains
+    pub end-much : (keep : ℕ) → keepsTooMuch B keep size ≡ true → endCall Y keep ≡ refused 7 Y
+    unfolding recordOf
+    end-much keep much = end-is R arrays ok idle h S handed-is keep sound-y begun-y ∙ rw (h-size, much)
+
+    pub end-cut : (keep : ℕ) → keepsTooMuch B keep size ≡ false
+        → _≡_ {A = Outcome} (endCall Y keep) (record { number = 0; count = size / B; next = recordOf w n (take (length s - size + keep) s) })
+    unfolding recordOf answeredOn
+    end-cut keep few =
+        let most : (keep ≤ size) × (keep < B) = keeps-few B keep size few in
+        let much : keepsTooMuch B keep (length h) ≡ false = ap (keepsTooMuch B keep) h-size ∙ few in
+        let some-h : keep ≤ length h = omega (arith, h-size, most .0) in
+        end-is R arrays ok idle h S handed-is keep sound-y begun-y
+        ∙ rw much
+        (wound R arrays ok idle h S handed-is keep some-h (most .1)
+        ∙ ap (answeredOn Y) (cut-next w word n s keep h on-h (some-h, most .1) back)
+        ∙ ap (λ (i : ℕ). record { number = 0; count = i / B; next = recordOf w n (take (length s - i + keep) s) }) h-size)
+
+    -- a block more
+    module _ (b : List ℕ) (is : b ≡ blockAfter w s (m - (k + 1))) (less : k < m) where
+      -- the blocks that are left then
+      abbrev j : ℕ
+      j = m - (k + 1)
+
+      b-length : length b ≡ B
+      unfolding blockAfter
+      b-length =
+          let fits : suc j ≤ m = omega (arith, less) in
+          ap length is
+          ∙ length-take-le B (drop (j * B) s)
+          (omega (arith, length-drop (j * B) s, mul-le-mul-right B fits, suc-mul j B, div-add-mod' (length s) B))
+
+      -- those before it and itself
+      with-it : firstBlocks Z (m - k) s ≡ firstBlocks Z j s ++ blocksOf Z b
+      unfolding blockAfter
+      with-it =
+          let next : m - k ≡ suc j = omega (arith, less) in
+          ap (λ (i : ℕ). firstBlocks Z i s) next
+          ∙ firstBlocks-more Z j s
+          ∙ ap (λ (t : List ℕ). firstBlocks Z j s ++ wordsOf Z 32 t ∷ []) (sym is)
+          ∙ ap (λ (bs : List (List ℕ)). firstBlocks Z j s ++ bs) (sym (one-block Z some b b-length))
+
+      run-back : backwards Z (blocksOf Z b) (forwards Z (firstBlocks Z (m - k) s) O) ≡ forwards Z (firstBlocks Z j s) O
+      run-back =
+          ap (λ (bs : List (List ℕ)). backwards Z (blocksOf Z b) (forwards Z bs O)) with-it
+          ∙ ap (backwards Z (blocksOf Z b)) (forwards-append Z (firstBlocks Z j s) (blocksOf Z b) O)
+          ∙ backwards-forwards Z (amounts w) (blocksOf Z b) (forwards Z (firstBlocks Z j s) O) (chain-of (firstBlocks Z j s))
+
+      pub block-more : handedBack Y b ≡ tapeSplit w n s (k + 1)
+      unfolding handedBack withSplit recordOf tapeSplit handedLast wholeBlocks
+      block-more =
+          let more : eqb (k + 1) 0 ≡ false = ne-eqb (k + 1) 0 (λ e. omega (arith, e)) in
+          rw (more, run-back) (ap (λ (t : List ℕ). record { mark = 1; second = forwards Z (firstBlocks Z j s) O; back = heldOf t; blocks = k + 1 }) is)
+
+  -- none yet
+  pub none-yet : begun R ≡ tapeSplit w n s 0
+  unfolding begun recordOf tapeSplit handedLast wholeBlocks blocksOf
+  none-yet = rw (sub-zero m)
