@@ -18,65 +18,46 @@
 #define ORDERS 300 /* random orders at each word size, and random records */
 #define CALLS 40   /* in each order */
 
-/* ---- calls ---- */
-
-/* The call once more, as the archive has it: with the address of its answer. */
-void *open_to(void *answer, uint64_t w, uint64_t n) __asm__("lsh_open");
-
-static lsh_record open_order(uint64_t w, uint64_t n)
-{
-    char said[80];
-    snprintf(said, sizeof said, "lsh_open(w = %" PRIu64 ", n = %" PRIu64 ")", w, n);
-    lsh_outcome right = right_open(w, n);
-    lsh_outcome outcome = lsh_open(w, n);
-    check_outcome(&outcome, &right, said);
-    open_to(place_for_answer(&place), w, n);
-    check_place(&right, said);
-    return outcome.next;
-}
-
 /* ---- what is tried: orders ---- */
 
 /* The receipt of the order is that of its bytes as one message. */
-static void close_as_whole(const lsh_record *r, struct guarded *lent)
+static void close_as_whole(const lsh_record *r)
 {
     uint64_t e = below(8);
     uint8_t last = random_last_byte(e);
-    struct guarded output;
     fill(&output);
-    close_order(r, last, e, &output, LSH_RECEIPT_BYTES + below(LARGEST - LSH_RECEIPT_BYTES));
+    close_order(r, last, e, LSH_RECEIPT_BYTES + below(LARGEST - LSH_RECEIPT_BYTES));
     uint8_t receipt[LSH_RECEIPT_BYTES];
-    check(lsh_whole(r->w, r->n, buffer(lent), r->total, last, e, receipt, sizeof receipt) == LSH_ACCEPTED
+    check(lsh_whole(r->w, r->n, buffer(&lent), r->total, last, e, receipt, sizeof receipt) == LSH_ACCEPTED
               && memcmp(buffer(&output), receipt, sizeof receipt) == 0,
           "lsh_close and lsh_whole write two receipts of one order of %" PRIu64 " bytes", r->total);
 }
 
 /* Cuts an order at a place: h from the block on that the cut lies in. */
-static lsh_record cut(const lsh_record *r, struct guarded *lent, size_t length)
+static const lsh_outcome *cut(const lsh_record *r, size_t length)
 {
     size_t keep = length % LSH_BLOCK_BYTES(r->w);
-    return rewind_order(r, keep, lent, length - keep, r->total - (length - keep)).next;
+    return rewind_order(r, keep, length - keep, r->total - (length - keep));
 }
 
 /* An order's bytes stand at the front of a buffer; a random piece is appended, or the order is cut anywhere. */
 static void try_order(uint64_t w)
 {
-    struct guarded lent;
     fill(&lent);
-    lsh_record r = open_order(w, 1 + below(8 * w));
+    lsh_record r = open_order(w, 1 + below(8 * w))->next;
     for (int i = 0; i < CALLS; i++) {
         size_t total = r.total;
         if (below(3) != 0) {
             size_t room = LARGEST - total;
             size_t piece_len = below((room < 3 * LSH_BLOCK_BYTES(w) ? room : 3 * LSH_BLOCK_BYTES(w)) + 1);
-            r = append(&r, &lent, total, piece_len).next;
+            r = append(&r, total, piece_len)->next;
             check(r.total == total + piece_len, "an order of %zu bytes and %zu more has %" PRIu64, total, piece_len, r.total);
         } else {
             size_t length = below(total + 1);
-            r = cut(&r, &lent, length);
+            r = cut(&r, length)->next;
             check(r.total == length, "an order of %zu bytes cut to %zu has %" PRIu64, total, length, r.total);
         }
-        close_as_whole(&r, &lent);
+        close_as_whole(&r);
     }
 }
 
@@ -91,7 +72,6 @@ static lsh_record random_record(uint64_t w, uint64_t least)
 /* The held bytes at the end of some blocks, so that a rewind is not refused by them. */
 static void try_random_record(uint64_t w)
 {
-    struct guarded lent, output;
     fill(&lent);
     fill(&output);
     lsh_record r = random_record(w, LARGEST);
@@ -99,23 +79,22 @@ static void try_random_record(uint64_t w)
     size_t h_len = below(4) * LSH_BLOCK_BYTES(w) + held;
     memcpy(buffer(&lent) + h_len - held, r.held, held);
     uint64_t e = below(8);
-    append(&r, &lent, 0, below(LARGEST));
-    rewind_order(&r, below((h_len < LSH_BLOCK_BYTES(w) ? h_len : LSH_BLOCK_BYTES(w) - 1) + 1), &lent, 0, h_len);
-    close_order(&r, random_last_byte(e), e, &output, LSH_RECEIPT_BYTES);
+    append(&r, 0, below(LARGEST));
+    rewind_order(&r, below((h_len < LSH_BLOCK_BYTES(w) ? h_len : LSH_BLOCK_BYTES(w) - 1) + 1), 0, h_len);
+    close_order(&r, random_last_byte(e), e, LSH_RECEIPT_BYTES);
 }
 
 /* Nothing but the held bytes is handed back, and nothing is left before them: only the opening chain is taken. */
 static void try_foreign_chain(uint64_t w)
 {
-    struct guarded lent;
     fill(&lent);
     for (size_t total = 0; total < LSH_BLOCK_BYTES(w); total++) {
         lsh_record r = right_open(w, 1 + below(8 * w)).next;
         r.total = total;
         memcpy(r.held, buffer(&lent), total);
-        rewind_order(&r, 0, &lent, 0, total);
+        rewind_order(&r, 0, 0, total);
         r.chain[below(16)] ^= 1;
-        rewind_order(&r, 0, &lent, 0, total);
+        rewind_order(&r, 0, 0, total);
     }
 }
 
@@ -124,18 +103,17 @@ static void try_foreign_chain(uint64_t w)
 /* All calls on a record: each refuses an unsound one before it looks at anything else. */
 static void try_record(const lsh_record *r)
 {
-    struct guarded lent, output;
     fill(&lent);
     fill(&output);
-    append(r, &lent, 0, 0);
-    append(r, &lent, 0, LSH_BLOCK_BYTES(64) + 1);
-    rewind_order(r, 0, &lent, 0, 0);
-    rewind_order(r, UINT64_MAX, &lent, 0, 1);
-    close_order(r, 0, 0, &output, LSH_RECEIPT_BYTES);
-    close_order(r, 0xff, UINT64_MAX, &output, 0);
+    append(r, 0, 0);
+    append(r, 0, LSH_BLOCK_BYTES(64) + 1);
+    rewind_order(r, 0, 0, 0);
+    rewind_order(r, UINT64_MAX, 0, 1);
+    close_order(r, 0, 0, LSH_RECEIPT_BYTES);
+    close_order(r, 0xff, UINT64_MAX, 0);
     if (!is_sound(r)) {
-        append(r, &lent, 0, SIZE_MAX);
-        rewind_order(r, 0, &lent, 0, SIZE_MAX);
+        append(r, 0, SIZE_MAX);
+        rewind_order(r, 0, 0, SIZE_MAX);
     }
 }
 
@@ -190,16 +168,15 @@ static void try_word_sizes_and_digest_lengths(void)
 static void try_limit(uint64_t w)
 {
     static const size_t beyond[] = {TWO_TO_32, LSH_MOST_BYTES, TWO_TO_63, SIZE_MAX - LSH_MOST_BYTES + 1, SIZE_MAX};
-    struct guarded lent;
     fill(&lent);
     for (size_t left = 0; left < LARGEST; left += 1 + below(50)) {
         lsh_record r = random_record(w, LSH_MOST_BYTES);
         r.total = LSH_MOST_BYTES - left;
         memcpy(r.held, buffer(&lent), r.total % LSH_BLOCK_BYTES(w));
-        append(&r, &lent, 0, left);
-        append(&r, &lent, 0, left + 1);
+        append(&r, 0, left);
+        append(&r, 0, left + 1);
         for (size_t i = 0; i < COUNT(beyond); i++) {
-            append(&r, &lent, 0, beyond[i]);
+            append(&r, 0, beyond[i]);
         }
     }
 }
@@ -207,10 +184,9 @@ static void try_limit(uint64_t w)
 /* The longest message of all: the most bytes and seven more bits. Its length is on the receipt, which lsh_same takes. */
 static void try_longest_message(uint64_t w)
 {
-    struct guarded output;
     fill(&output);
     lsh_record r = sound_record(w, LSH_MOST_BYTES);
-    close_order(&r, random_last_byte(7), 7, &output, LSH_RECEIPT_BYTES);
+    close_order(&r, random_last_byte(7), 7, LSH_RECEIPT_BYTES);
     const uint8_t *receipt = buffer(&output);
     check(length_on(receipt) == LSH_MOST_BITS, "lsh_close writes %" PRIu64 " bits for the longest message", length_on(receipt));
     lsh_sameness sameness = lsh_same(receipt, LSH_RECEIPT_BYTES, receipt, LSH_RECEIPT_BYTES);
@@ -225,18 +201,17 @@ static void try_rewind_lengths(uint64_t w)
     static const uint64_t keeps[] = {
         0, 1, 44, 127, 128, 129, 255, 256, 257, TWO_TO_32, TWO_TO_32 + 1, TWO_TO_63, UINT64_MAX,
     };
-    struct guarded lent;
     fill(&lent);
     const lsh_record opened = right_open(w, 8 * w).next;
     for (size_t total = 0; total <= 2 * LSH_BLOCK_BYTES(w) + 2; total += 1 + below(20)) {
-        lsh_record r = append(&opened, &lent, 0, total).next;
+        lsh_record r = append(&opened, 0, total)->next;
         for (size_t k = 0; k < COUNT(keeps); k++) {
             for (size_t h_len = 0; h_len <= total; h_len++) {
-                rewind_order(&r, keeps[k], &lent, total - h_len, h_len);
+                rewind_order(&r, keeps[k], total - h_len, h_len);
             }
-            rewind_order(&r, keeps[k], &lent, 0, total + 1);
-            rewind_order(&r, keeps[k], &lent, 0, TWO_TO_32 + total);
-            rewind_order(&r, keeps[k], &lent, 0, SIZE_MAX);
+            rewind_order(&r, keeps[k], 0, total + 1);
+            rewind_order(&r, keeps[k], 0, TWO_TO_32 + total);
+            rewind_order(&r, keeps[k], 0, SIZE_MAX);
         }
     }
 }
@@ -244,16 +219,15 @@ static void try_rewind_lengths(uint64_t w)
 /* Each byte of an order changed: a held one is found, and one of a whole block is found where nothing is left before it. */
 static void try_changed_bytes(uint64_t w)
 {
-    struct guarded lent;
     fill(&lent);
     const lsh_record opened = right_open(w, 8 * w).next;
     size_t total = 2 * LSH_BLOCK_BYTES(w) + 44;
-    lsh_record r = append(&opened, &lent, 0, total).next;
+    lsh_record r = append(&opened, 0, total)->next;
     for (size_t i = 0; i < total; i++) {
         uint8_t bit = (uint8_t)(1u << below(8));
         buffer(&lent)[i] ^= bit;
         for (size_t from = 0; from <= i; from += LSH_BLOCK_BYTES(w)) {
-            rewind_order(&r, 0, &lent, from, total - from);
+            rewind_order(&r, 0, from, total - from);
         }
         buffer(&lent)[i] ^= bit;
     }
@@ -267,13 +241,12 @@ static void try_ends(uint64_t w)
     static const size_t output_lengths[] = {
         0, 1, LSH_RECEIPT_BYTES - 1, LSH_RECEIPT_BYTES, LSH_RECEIPT_BYTES + 1, LARGEST,
     };
-    struct guarded output;
     for (size_t e = 0; e < COUNT(extra_bits); e++) {
         for (unsigned last = 0; last <= 0xff; last++) {
             for (size_t o = 0; o < COUNT(output_lengths); o++) {
                 lsh_record r = random_record(w, 0);
                 fill(&output);
-                close_order(&r, (uint8_t)last, extra_bits[e], &output, output_lengths[o]);
+                close_order(&r, (uint8_t)last, extra_bits[e], output_lengths[o]);
             }
         }
     }

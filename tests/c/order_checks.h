@@ -1,5 +1,5 @@
-/* What the programs share that try the calls on an order: checks of an outcome, calls that are made and checked, and records to try. checks.h
- * comes before it. */
+/* What the programs share that try the calls on an order: the buffers, checks of an outcome, calls that are made and checked, and records to
+ * try. checks.h comes before it. The programs run with a small stack, so what is large is static. */
 #ifndef ORDER_CHECKS_H
 #define ORDER_CHECKS_H
 
@@ -11,10 +11,13 @@
 #include "lsh_kiosk.h"
 #include "order_model.h"
 
-/* ---- outcomes ---- */
+/* ---- buffers ---- */
 
-/* Where a call writes its outcome if it is given the address by hand. */
-static struct guarded place;
+/* The bytes of an order, from which pieces are lent and bytes handed back; where a receipt is written; and where a call writes its outcome if
+ * it is given the address by hand. */
+static struct guarded lent, output, place;
+
+/* ---- outcomes ---- */
 
 static void check_outcome(const lsh_outcome *outcome, const lsh_outcome *right, const char *said)
 {
@@ -23,13 +26,15 @@ static void check_outcome(const lsh_outcome *outcome, const lsh_outcome *right, 
     check(memcmp(&outcome->next, &right->next, sizeof right->next) == 0, "%s returns another record", said);
 }
 
+/* The outcome of the last call that was checked. */
+static lsh_outcome made;
+
 /* The outcome at the place, and the bytes around it. */
 static void check_place(const lsh_outcome *right, const char *said)
 {
-    lsh_outcome outcome;
-    memcpy(&outcome, buffer(&place), sizeof outcome);
-    check_outcome(&outcome, right, said);
-    check(kept_except(&place, sizeof outcome), "%s writes outside its answer", said);
+    memcpy(&made, buffer(&place), sizeof made);
+    check_outcome(&made, right, said);
+    check(kept_except(&place, sizeof made), "%s writes outside its answer", said);
 }
 
 /* Says what is tried on a record. */
@@ -39,55 +44,70 @@ static void check_place(const lsh_outcome *right, const char *said)
 
 /* ---- calls ---- */
 
+/* Each of these makes a call in both ways and checks all of it. What is returned is the last outcome, which is good until the next call. */
+
 /* The calls once more, as the archive has them: with the address of their answer. */
+void *open_to(void *answer, uint64_t w, uint64_t n) __asm__("lsh_open");
 void *append_to(void *answer, lsh_record r, const uint8_t *piece, size_t piece_len) __asm__("lsh_append");
 void *rewind_to(void *answer, lsh_record r, uint64_t keep, const uint8_t *h, size_t h_len) __asm__("lsh_rewind");
 
+APART const lsh_outcome *open_order(uint64_t w, uint64_t n)
+{
+    char said[80];
+    snprintf(said, sizeof said, "lsh_open(w = %" PRIu64 ", n = %" PRIu64 ")", w, n);
+    lsh_outcome right = right_open(w, n);
+    lsh_outcome outcome = lsh_open(w, n);
+    check_outcome(&outcome, &right, said);
+    open_to(place_for_answer(&place), w, n);
+    check_place(&right, said);
+    return &made;
+}
+
 /* A piece may be said to be longer than its memory if the call has to be refused: a refused call reads nothing of it. */
-static inline lsh_outcome append(const lsh_record *r, struct guarded *lent, size_t from, size_t piece_len)
+APART const lsh_outcome *append(const lsh_record *r, size_t from, size_t piece_len)
 {
     char said[200];
     SAY(said, "lsh_append", r, "%zu bytes", piece_len);
-    const uint8_t *piece = buffer(lent) + from;
+    const uint8_t *piece = buffer(&lent) + from;
     lsh_outcome right = right_append(r, piece, piece_len);
-    take_copy(lent);
+    take_copy(&lent);
     lsh_outcome outcome = lsh_append(*r, piece, piece_len);
     check_outcome(&outcome, &right, said);
     append_to(place_for_answer(&place), *r, piece, piece_len);
     check_place(&right, said);
-    check(kept_except(lent, 0), "%s writes to the piece or around it", said);
-    return outcome;
+    check(kept_except(&lent, 0), "%s writes to the piece or around it", said);
+    return &made;
 }
 
-static inline lsh_outcome rewind_order(const lsh_record *r, uint64_t keep, struct guarded *lent, size_t from, size_t h_len)
+APART const lsh_outcome *rewind_order(const lsh_record *r, uint64_t keep, size_t from, size_t h_len)
 {
     char said[200];
     SAY(said, "lsh_rewind", r, "keep = %" PRIu64 ", %zu bytes", keep, h_len);
-    const uint8_t *h = buffer(lent) + from;
+    const uint8_t *h = buffer(&lent) + from;
     lsh_outcome right = right_rewind(r, keep, h, h_len);
-    take_copy(lent);
+    take_copy(&lent);
     lsh_outcome outcome = lsh_rewind(*r, keep, h, h_len);
     check_outcome(&outcome, &right, said);
     rewind_to(place_for_answer(&place), *r, keep, h, h_len);
     check_place(&right, said);
-    check(kept_except(lent, 0), "%s writes to the bytes handed back or around them", said);
-    return outcome;
+    check(kept_except(&lent, 0), "%s writes to the bytes handed back or around them", said);
+    return &made;
 }
 
-static inline void close_order(const lsh_record *r, uint8_t last, uint64_t e, struct guarded *output, size_t output_len)
+APART void close_order(const lsh_record *r, uint8_t last, uint64_t e, size_t output_len)
 {
     char said[200];
     SAY(said, "lsh_close", r, "last = %u, e = %" PRIu64 ", output of %zu bytes", last, e, output_len);
     uint32_t right = right_close_answer(r, last, e, output_len);
-    take_copy(output);
-    uint32_t answer = lsh_close(*r, last, e, buffer(output), output_len);
+    take_copy(&output);
+    uint32_t answer = lsh_close(*r, last, e, buffer(&output), output_len);
     check(answer == right, "%s answers %" PRIu32 ", not %" PRIu32, said, answer, right);
-    check(kept_except(output, right == LSH_ACCEPTED ? LSH_RECEIPT_BYTES : 0), "%s writes %s", said,
+    check(kept_except(&output, right == LSH_ACCEPTED ? LSH_RECEIPT_BYTES : 0), "%s writes %s", said,
           right == LSH_ACCEPTED ? "outside the receipt" : "to the output or around it");
     if (right == LSH_ACCEPTED) {
         uint8_t receipt[LSH_RECEIPT_BYTES];
         right_receipt(r, last, e, receipt);
-        check(memcmp(buffer(output), receipt, sizeof receipt) == 0, "%s writes another receipt", said);
+        check(memcmp(buffer(&output), receipt, sizeof receipt) == 0, "%s writes another receipt", said);
     }
 }
 

@@ -85,7 +85,7 @@ static void run_block(block_call *call, uint64_t w, uint64_t *chain, const uint8
     }
 }
 
-static lsh_outcome right_open(uint64_t w, uint64_t n)
+APART lsh_outcome right_open(uint64_t w, uint64_t n)
 {
     static const uint8_t zeros[LSH_BLOCK_BYTES(64)];
     static const lsh_record no_record;
@@ -100,7 +100,7 @@ static lsh_outcome right_open(uint64_t w, uint64_t n)
     return outcome;
 }
 
-static lsh_outcome right_append(const lsh_record *r, const uint8_t *piece, size_t piece_len)
+APART lsh_outcome right_append(const lsh_record *r, const uint8_t *piece, size_t piece_len)
 {
     if (!is_sound(r)) {
         return refused(LSH_UNSOUND_RECORD, r);
@@ -126,7 +126,7 @@ static lsh_outcome right_append(const lsh_record *r, const uint8_t *piece, size_
     return outcome;
 }
 
-static lsh_outcome right_rewind(const lsh_record *r, uint64_t keep, const uint8_t *h, size_t h_len)
+APART lsh_outcome right_rewind(const lsh_record *r, uint64_t keep, const uint8_t *h, size_t h_len)
 {
     if (!is_sound(r)) {
         return refused(LSH_UNSOUND_RECORD, r);

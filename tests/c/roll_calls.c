@@ -23,10 +23,10 @@
 /* ---- what is tried: orders ---- */
 
 /* Cuts an order, whose bytes stand at the front of the buffer: h from the block on that the cut lies in. */
-static lsh_record cut(const lsh_record *r, size_t length, size_t roll_len)
+static const lsh_outcome *cut(const lsh_record *r, size_t length, size_t roll_len)
 {
     size_t keep = length % LSH_BLOCK_BYTES(r->w);
-    return rewind_roll(r, keep, length - keep, r->total - (length - keep), roll_len).next;
+    return rewind_roll(r, keep, length - keep, r->total - (length - keep), roll_len);
 }
 
 /* The roll shows so many checkpoints of the order, with the chains that lsh_append reaches without a roll. */
@@ -46,7 +46,7 @@ static void check_shown(uint64_t w, size_t roll_len, size_t links)
 /* The order is appended to, or cut, until it has this length, and then its roll shows so many checkpoints. */
 static void go_to(lsh_record *r, size_t length, size_t roll_len, size_t links)
 {
-    *r = length > r->total ? append_roll(r, r->total, length - r->total, roll_len).next : cut(r, length, roll_len);
+    *r = (length > r->total ? append_roll(r, r->total, length - r->total, roll_len) : cut(r, length, roll_len))->next;
     check(r->total == length, "an order has %" PRIu64 " bytes, not %zu", r->total, length);
     check_shown(r->w, roll_len, links);
 }
@@ -57,7 +57,7 @@ static void try_checkpoints(uint64_t w)
     size_t interval = INTERVAL(w), roll_len = LSH_ROLL_BYTES(w, 2);
     fill(&lent);
     make_new_roll(roll_len);
-    lsh_record r = lsh_open(w, 8 * w).next;
+    lsh_record r = open_order(w, 8 * w)->next;
     go_to(&r, interval - 1, roll_len, 0);
     go_to(&r, interval, roll_len, 1);
     go_to(&r, 2 * interval - 1, roll_len, 1);
@@ -93,10 +93,10 @@ static void try_order(uint64_t w, size_t slots)
     size_t roll_len = LSH_ROLL_BYTES(w, slots);
     fill(&lent);
     make_new_roll(roll_len);
-    lsh_record r = lsh_open(w, 1 + below(8 * w)).next;
+    lsh_record r = open_order(w, 1 + below(8 * w))->next;
     for (int i = 0; i < CALLS; i++) {
         size_t length = random_length(w);
-        r = length > r.total ? append_roll(&r, r.total, length - r.total, roll_len).next : cut(&r, length, roll_len);
+        r = (length > r.total ? append_roll(&r, r.total, length - r.total, roll_len) : cut(&r, length, roll_len))->next;
     }
 }
 
@@ -310,8 +310,8 @@ static void try_changed_bytes(uint64_t w)
     size_t roll_len = LSH_ROLL_BYTES(w, 1);
     fill(&lent);
     make_new_roll(roll_len);
-    const lsh_record opened = right_open(w, 8 * w).next;
-    lsh_record r = append_roll(&opened, 0, INTERVAL(w) + 44, roll_len).next;
+    lsh_record r = open_order(w, 8 * w)->next;
+    r = append_roll(&r, 0, INTERVAL(w) + 44, roll_len)->next;
     for (size_t i = 0; i < r.total; i += 1 + below(LSH_BLOCK_BYTES(w))) {
         uint8_t bit = (uint8_t)(1u << below(8));
         buffer(&lent)[i] ^= bit;

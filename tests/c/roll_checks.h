@@ -1,4 +1,4 @@
-/* What the programs share that try the calls with a roll: the buffers, calls that are made and checked, and rolls to try. checks.h and
+/* What the programs share that try the calls with a roll: its buffer, calls that are made and checked, and rolls to try. checks.h and
  * order_checks.h come before it. */
 #ifndef ROLL_CHECKS_H
 #define ROLL_CHECKS_H
@@ -12,9 +12,7 @@
 #include "lsh_kiosk.h"
 #include "roll_model.h"
 
-/* The buffers, which are large and therefore not on the stack: the bytes of an order, from which pieces are lent and bytes handed back, and
- * the roll. */
-static struct guarded lent, roll;
+static struct guarded roll;
 
 /* ---- calls ---- */
 
@@ -65,7 +63,7 @@ static void check_rewound(const lsh_outcome *outcome, size_t roll_len, const cha
 }
 
 /* A piece or a roll may be said to be longer than its memory if the call has to be refused for that: a refused call reads nothing of it. */
-static lsh_outcome append_roll(const lsh_record *r, size_t from, size_t piece_len, size_t roll_len)
+APART const lsh_outcome *append_roll(const lsh_record *r, size_t from, size_t piece_len, size_t roll_len)
 {
     char said[200];
     SAY(said, "lsh_append_roll", r, "%zu bytes, roll of %zu bytes", piece_len, roll_len);
@@ -81,10 +79,10 @@ static lsh_outcome append_roll(const lsh_record *r, size_t from, size_t piece_le
     check_place(&right, said);
     check_appended(r, piece, piece_len, roll_len, right.number, said);
     check(kept_except(&lent, 0), "%s writes to the piece or around it", said);
-    return outcome;
+    return &made;
 }
 
-static lsh_outcome rewind_roll(const lsh_record *r, uint64_t keep, size_t from, size_t h_len, size_t roll_len)
+APART const lsh_outcome *rewind_roll(const lsh_record *r, uint64_t keep, size_t from, size_t h_len, size_t roll_len)
 {
     char said[200];
     SAY(said, "lsh_rewind_roll", r, "keep = %" PRIu64 ", %zu bytes, roll of %zu bytes", keep, h_len, roll_len);
@@ -100,7 +98,7 @@ static lsh_outcome rewind_roll(const lsh_record *r, uint64_t keep, size_t from, 
     check_place(&right, said);
     check_rewound(&right, roll_len, said);
     check(kept_except(&lent, 0), "%s writes to the bytes handed back or around them", said);
-    return outcome;
+    return &made;
 }
 
 /* ---- rolls ---- */

@@ -39,7 +39,7 @@ void *abandon_to(void *answer, lsh_record r) __asm__("lsh_abandon");
 
 /* Bytes, a block or a roll may be said to be longer than their memory if the call has to be refused for that: a refused call reads nothing of
  * them. */
-static lsh_outcome begin(const lsh_record *r, size_t from, size_t bytes_len)
+APART const lsh_outcome *begin(const lsh_record *r, size_t from, size_t bytes_len)
 {
     char said[200];
     SAY(said, "lsh_begin", r, PROGRESS ", %zu bytes", r->mark, r->blocks, bytes_len);
@@ -51,10 +51,10 @@ static lsh_outcome begin(const lsh_record *r, size_t from, size_t bytes_len)
     begin_to(place_for_answer(&place), *r, bytes, bytes_len);
     check_place(&right, said);
     check(kept_except(&lent, 0), "%s writes to the bytes or around them", said);
-    return outcome;
+    return &made;
 }
 
-static lsh_outcome hand_back(const lsh_record *r, size_t from, size_t block_len)
+APART const lsh_outcome *hand_back(const lsh_record *r, size_t from, size_t block_len)
 {
     char said[200];
     SAY(said, "lsh_hand_back", r, PROGRESS ", %zu bytes", r->mark, r->blocks, block_len);
@@ -66,10 +66,10 @@ static lsh_outcome hand_back(const lsh_record *r, size_t from, size_t block_len)
     hand_back_to(place_for_answer(&place), *r, block, block_len);
     check_place(&right, said);
     check(kept_except(&lent, 0), "%s writes to the block or around it", said);
-    return outcome;
+    return &made;
 }
 
-static lsh_outcome end(const lsh_record *r, uint64_t keep)
+APART const lsh_outcome *end(const lsh_record *r, uint64_t keep)
 {
     char said[200];
     SAY(said, "lsh_end", r, PROGRESS ", keep = %" PRIu64, r->mark, r->blocks, keep);
@@ -78,10 +78,10 @@ static lsh_outcome end(const lsh_record *r, uint64_t keep)
     check_outcome(&outcome, &right, said);
     end_to(place_for_answer(&place), *r, keep);
     check_place(&right, said);
-    return outcome;
+    return &made;
 }
 
-static lsh_outcome end_roll(const lsh_record *r, uint64_t keep, size_t roll_len)
+APART const lsh_outcome *end_roll(const lsh_record *r, uint64_t keep, size_t roll_len)
 {
     char said[200];
     SAY(said, "lsh_end_roll", r, PROGRESS ", keep = %" PRIu64 ", roll of %zu bytes", r->mark, r->blocks, keep, roll_len);
@@ -94,10 +94,10 @@ static lsh_outcome end_roll(const lsh_record *r, uint64_t keep, size_t roll_len)
     end_roll_to(place_for_answer(&place), *r, keep, buffer(&roll), roll_len);
     check_place(&right, said);
     check_rewound(&right, roll_len, said);
-    return outcome;
+    return &made;
 }
 
-static lsh_outcome abandon(const lsh_record *r)
+APART const lsh_outcome *abandon(const lsh_record *r)
 {
     char said[200];
     SAY(said, "lsh_abandon", r, PROGRESS, r->mark, r->blocks);
@@ -106,32 +106,28 @@ static lsh_outcome abandon(const lsh_record *r)
     check_outcome(&outcome, &right, said);
     abandon_to(place_for_answer(&place), *r);
     check_place(&right, said);
-    return outcome;
+    return &made;
 }
-
-/* Where receipts are written; the buffer is too large for the stack. */
-static struct guarded output;
 
 /* ---- what is tried: orders ---- */
 
 /* An order's bytes stand at the front of the buffer. */
-static lsh_record order_of(uint64_t w, uint64_t n, size_t total)
+APART const lsh_outcome *order_of(uint64_t w, uint64_t n, size_t total)
 {
-    const lsh_record opened = lsh_open(w, n).next;
-    return append(&opened, &lent, 0, total).next;
+    const lsh_record opened = open_order(w, n)->next;
+    return append(&opened, 0, total);
 }
 
-static lsh_outcome begin_order(const lsh_record *r)
+static const lsh_outcome *begin_order(const lsh_record *r)
 {
     size_t held = r->total % LSH_BLOCK_BYTES(r->w);
     return begin(r, r->total - held, held);
 }
 
-/* The order's last whole block that was not yet handed back. */
-static lsh_outcome hand_back_next(const lsh_record *r)
+/* Hands back a block of the order, counted from 0. */
+static const lsh_outcome *hand_back_block(const lsh_record *r, size_t i)
 {
-    size_t block = LSH_BLOCK_BYTES(r->w);
-    return hand_back(r, (r->total / block - r->blocks - 1) * block, block);
+    return hand_back(r, i * LSH_BLOCK_BYTES(r->w), LSH_BLOCK_BYTES(r->w));
 }
 
 /* While the split rewind is unfinished, the receipt is that of the order before it, an abandon gives the record before it, byte for byte, and
@@ -140,23 +136,22 @@ static void check_unfinished(const lsh_record *before, const lsh_record *r)
 {
     uint64_t e = below(8);
     uint8_t last = random_last_byte(e);
-    close_order(r, last, e, &output, LSH_RECEIPT_BYTES);
+    close_order(r, last, e, LSH_RECEIPT_BYTES);
     uint8_t receipt[LSH_RECEIPT_BYTES];
     check(lsh_close(*before, last, e, receipt, sizeof receipt) == LSH_ACCEPTED && memcmp(buffer(&output), receipt, sizeof receipt) == 0,
           "the receipt of an order of %" PRIu64 " bytes is another one after %" PRIu64 " blocks", before->total, r->blocks);
 
-    lsh_outcome abandoned = abandon(r);
-    check(abandoned.number == LSH_ACCEPTED && memcmp(&abandoned.next, before, sizeof *before) == 0,
+    check(abandon(r)->number == LSH_ACCEPTED && memcmp(&made.next, before, sizeof *before) == 0,
           "an order of %" PRIu64 " bytes is not restored after %" PRIu64 " blocks", before->total, r->blocks);
 
-    check(append(r, &lent, 0, 0).number == LSH_OUT_OF_TURN && rewind_order(r, 0, &lent, 0, r->total).number == LSH_OUT_OF_TURN
-              && begin(r, 0, r->total % LSH_BLOCK_BYTES(r->w)).number == LSH_OUT_OF_TURN,
+    check(append(r, 0, 0)->number == LSH_OUT_OF_TURN && rewind_order(r, 0, 0, before->total)->number == LSH_OUT_OF_TURN
+              && begin(r, 0, before->total % LSH_BLOCK_BYTES(before->w))->number == LSH_OUT_OF_TURN,
           "an order of %" PRIu64 " bytes is changed after %" PRIu64 " blocks", before->total, r->blocks);
 }
 
-/* The end of a split rewind gives what one rewind over the same bytes does; with a roll, whose copy is that before the end, if its length is
- * not 0. */
-static void check_as_one_rewind(const lsh_record *before, const lsh_outcome *ended, uint64_t keep, size_t from, size_t roll_len)
+/* The end of a split rewind, made just before, gives what one rewind over the same bytes does; with a roll, whose copy is that before the end,
+ * if its length is not 0. */
+APART void check_as_one_rewind(const lsh_record *before, uint64_t keep, size_t from, size_t roll_len)
 {
     const uint8_t *h = buffer(&lent) + from;
     size_t h_len = before->total - from;
@@ -170,46 +165,48 @@ static void check_as_one_rewind(const lsh_record *before, const lsh_outcome *end
         one = lsh_rewind_roll(*before, keep, h, h_len, buffer(&roll), roll_len);
         check(memcmp(buffer(&roll), after, roll_len) == 0, "a split rewind of %zu bytes leaves another roll than one rewind", h_len);
     }
-    check(ended->number == one.number && ended->count == one.count,
-          "a split rewind of %zu bytes answers %" PRIu32 " %" PRIu64 ", and one rewind %" PRIu32 " %" PRIu64, h_len, ended->number,
-          ended->count, one.number, one.count);
-    check(one.number != LSH_ACCEPTED || memcmp(&ended->next, &one.next, sizeof one.next) == 0,
+    check(made.number == one.number && made.count == one.count,
+          "a split rewind of %zu bytes answers %" PRIu32 " %" PRIu64 ", and one rewind %" PRIu32 " %" PRIu64, h_len, made.number, made.count,
+          one.number, one.count);
+    check(one.number != LSH_ACCEPTED || memcmp(&made.next, &one.next, sizeof one.next) == 0,
           "a split rewind of %zu bytes gives another record than one rewind", h_len);
 }
 
-/* Cuts an order in steps, with a roll if its length is not 0. The first steps are tried thoroughly, and some of the others. */
-static lsh_outcome cut_in_steps(const lsh_record *before, size_t length, size_t roll_len)
+/* Cuts an order in steps, with a roll if its length is not 0. Some of the records in between are tried, the first ones always. */
+static const lsh_outcome *cut_in_steps(const lsh_record *before, size_t length, size_t roll_len)
 {
-    size_t keep = length % LSH_BLOCK_BYTES(before->w), from = length - keep;
-    lsh_record r = begin_order(before).next;
+    static lsh_record r;
+    size_t block = LSH_BLOCK_BYTES(before->w), keep = length % block, whole = before->total / block;
+    r = begin_order(before)->next;
     check_unfinished(before, &r);
-    while (r.total - r.total % LSH_BLOCK_BYTES(r.w) - r.blocks * LSH_BLOCK_BYTES(r.w) > from) {
-        r = hand_back_next(&r).next;
-        if (r.blocks <= 3 || below(16) == 0) {
+    for (size_t i = whole; i > length / block; i--) {
+        r = hand_back_block(&r, i - 1)->next;
+        if (whole - i < 3 || below(16) == 0) {
             check_unfinished(before, &r);
         }
     }
-    lsh_outcome ended = roll_len == 0 ? end(&r, keep) : end_roll(&r, keep, roll_len);
-    check_as_one_rewind(before, &ended, keep, from, roll_len);
+    const lsh_outcome *ended = roll_len == 0 ? end(&r, keep) : end_roll(&r, keep, roll_len);
+    check_as_one_rewind(before, keep, length - keep, roll_len);
     return ended;
 }
 
 /* The record is that of the first bytes of the buffer, with no split rewind begun. */
-static void check_order(const lsh_record *r, size_t length)
+static bool check_order(const lsh_record *r, size_t length)
 {
-    lsh_outcome right = lsh_append(lsh_open(r->w, r->n).next, buffer(&lent), length);
-    check(memcmp(r, &right.next, sizeof *r) == 0, "a record is not that of the order of %zu bytes, w = %" PRIu64, length, r->w);
+    bool is_right = memcmp(r, &order_of(r->w, r->n, length)->next, sizeof *r) == 0;
+    check(is_right, "a record is not that of the order of %zu bytes, w = %" PRIu64, length, r->w);
+    return is_right;
 }
 
+/* Of the bytes in the buffer. */
 static void try_every_cut(uint64_t w)
 {
     const size_t block = LSH_BLOCK_BYTES(w), totals[] = {0, 1, block - 1, block, block + 1, 2 * block, 3 * block + 44};
-    fill(&lent);
     for (size_t i = 0; i < COUNT(totals); i++) {
-        lsh_record r = order_of(w, 1 + below(8 * w), totals[i]);
+        lsh_record r = order_of(w, 1 + below(8 * w), totals[i])->next;
         for (size_t length = 0; length <= totals[i]; length++) {
-            lsh_outcome ended = cut_in_steps(&r, length, 0);
-            check_order(&ended.next, length);
+            lsh_record cut = cut_in_steps(&r, length, 0)->next;
+            check_order(&cut, length);
         }
     }
 }
@@ -221,25 +218,28 @@ static void try_cuts_about_checkpoints(uint64_t w)
     const size_t lengths[] = {total, 2 * interval + 1, 2 * interval, 2 * interval - 1, interval + 1, interval, interval - 1, 1, 0};
     fill(&lent);
     make_new_roll(roll_len);
-    lsh_record r = lsh_open(w, 8 * w).next;
+    lsh_record r = open_order(w, 8 * w)->next;
     for (size_t i = 0; i < COUNT(lengths); i++) {
-        r = append_roll(&r, r.total, total - r.total, roll_len).next;
-        r = cut_in_steps(&r, lengths[i], roll_len).next;
-        check_order(&r, lengths[i]);
+        r = append_roll(&r, r.total, total - r.total, roll_len)->next;
+        r = cut_in_steps(&r, lengths[i], roll_len)->next;
+        if (!check_order(&r, lengths[i])) {
+            return;
+        }
         struct way way = walk(w, buffer(&roll), roll_len);
         check(way.is_roll && way.count == lengths[i] / interval, "a cut to %zu bytes leaves %zu links", lengths[i], way.count);
     }
 }
 
 /* A split rewind is begun, some blocks are handed back, and it is abandoned. */
-static lsh_record begin_and_abandon(const lsh_record *before)
+static const lsh_outcome *begin_and_abandon(const lsh_record *before)
 {
-    lsh_record r = begin_order(before).next;
-    size_t blocks = below(r.total / LSH_BLOCK_BYTES(r.w) + 1);
-    while (r.blocks < blocks) {
-        r = hand_back_next(&r).next;
+    static lsh_record r;
+    size_t whole = before->total / LSH_BLOCK_BYTES(before->w), left = below(whole + 1);
+    r = begin_order(before)->next;
+    for (size_t i = whole; i > left; i--) {
+        r = hand_back_block(&r, i - 1)->next;
     }
-    return abandon(&r).next;
+    return abandon(&r);
 }
 
 /* Pieces, rewinds, split rewinds and abandoned ones in any order; with a roll if it has slots. */
@@ -248,25 +248,26 @@ static void try_order(uint64_t w, size_t slots)
     size_t roll_len = slots == 0 ? 0 : LSH_ROLL_BYTES(w, slots), total = 0;
     fill(&lent);
     make_new_roll(roll_len);
-    lsh_record r = lsh_open(w, 1 + below(8 * w)).next;
+    lsh_record r = open_order(w, 1 + below(8 * w))->next;
     for (int i = 0; i < CHANGES; i++) {
         size_t length = below((slots == 0 ? 9 * LSH_BLOCK_BYTES(w) : LARGEST) + 1);
         size_t keep = length % LSH_BLOCK_BYTES(w), from = length - keep;
         if (length > total) {
-            lsh_outcome longer = roll_len == 0 ? append(&r, &lent, total, length - total) : append_roll(&r, total, length - total, roll_len);
-            total = longer.number == LSH_ACCEPTED ? length : total; /* the roll may be full */
-            r = longer.next;
+            r = (roll_len == 0 ? append(&r, total, length - total) : append_roll(&r, total, length - total, roll_len))->next;
+            total = made.number == LSH_ACCEPTED ? length : total; /* the roll may be full */
         } else if (below(4) == 0) {
-            r = begin_and_abandon(&r);
+            r = begin_and_abandon(&r)->next;
         } else if (below(3) == 0) {
-            r = (roll_len == 0 ? rewind_order(&r, keep, &lent, from, total - from) : rewind_roll(&r, keep, from, total - from, roll_len)).next;
+            r = (roll_len == 0 ? rewind_order(&r, keep, from, total - from) : rewind_roll(&r, keep, from, total - from, roll_len))->next;
             total = length;
         } else {
-            r = cut_in_steps(&r, length, roll_len).next;
+            r = cut_in_steps(&r, length, roll_len)->next;
             total = length;
             buffer(&lent)[total] ^= 1; /* the order goes on with other bytes */
         }
-        check_order(&r, total);
+        if (!check_order(&r, total)) {
+            return;
+        }
     }
 }
 
@@ -277,18 +278,18 @@ static void try_changed_bytes(uint64_t w)
     const size_t block = LSH_BLOCK_BYTES(w), total = 3 * block + 44, roll_len = LSH_ROLL_BYTES(w, 1);
     fill(&lent);
     make_new_roll(roll_len);
-    lsh_record before = order_of(w, 8 * w, total);
+    lsh_record before = order_of(w, 8 * w, total)->next;
     for (size_t i = 0; i < total; i += 1 + below(8)) {
         uint8_t bit = (uint8_t)(1u << below(8));
         buffer(&lent)[i] ^= bit;
         if (i < total - 44) {
             for (size_t length = below(block); length < total; length += block) {
-                lsh_outcome ended = cut_in_steps(&before, length, below(2) * roll_len);
-                check((ended.number == LSH_OPENING_DIFFERS) == (length < block), "an end with a changed block answers %" PRIu32, ended.number);
-                check(ended.next.mark == (length < block), "an end with a changed block leaves the mark %" PRIu64, ended.next.mark);
+                const lsh_outcome *ended = cut_in_steps(&before, length, below(2) * roll_len);
+                check(ended->number == (length < block ? LSH_OPENING_DIFFERS : LSH_ACCEPTED) && ended->next.mark == (length < block),
+                      "an end with byte %zu changed answers %" PRIu32 ", mark = %" PRIu64, i, ended->number, ended->next.mark);
             }
         } else {
-            check(begin_order(&before).number == LSH_HELD_DIFFER, "a split rewind is begun with byte %zu changed", i);
+            check(begin_order(&before)->number == LSH_HELD_DIFFER, "a split rewind is begun with byte %zu changed", i);
         }
         buffer(&lent)[i] ^= bit;
     }
@@ -326,7 +327,7 @@ static void try_random_record(uint64_t w)
     end(&r, below(LSH_BLOCK_BYTES(w)));
     end(&r, total % LSH_BLOCK_BYTES(w) + 1);
     hand_back(&r, below(LARGEST - LSH_BLOCK_BYTES(w)), LSH_BLOCK_BYTES(w));
-    lsh_record before = abandon(&r).next;
+    lsh_record before = abandon(&r)->next;
     check_unfinished(&before, &r);
 
     size_t slots = 1 + below(LSH_MOST_SLOTS), links = below(slots + 1);
@@ -356,27 +357,21 @@ static void try_lengths(uint64_t w)
     const size_t huge[] = {2 * block, TWO_TO_32, TWO_TO_32 + 44, TWO_TO_32 + block, TWO_TO_63, TWO_TO_63 + block, SIZE_MAX - block + 1, SIZE_MAX};
     fill(&lent);
     for (size_t i = 0; i < COUNT(totals); i++) {
-        const lsh_record before = order_of(w, 8 * w, totals[i]);
-        const size_t from = totals[i] - totals[i] % block;
-        for (size_t length = 0; length <= block + 1; length++) {
-            begin(&before, from, length);
-            hand_back(&before, 0, length);
-        }
-        for (size_t k = 0; k < COUNT(huge); k++) {
-            begin(&before, from, huge[k]);
-        }
-        lsh_record r = begin_order(&before).next;
-        for (;;) {
+        const size_t whole = totals[i] / block;
+        lsh_record r = order_of(w, 8 * w, totals[i])->next;
+        for (size_t left = whole + 1;; left--) { /* at first with none begun */
             for (size_t length = 0; length <= block + 1; length++) {
+                begin(&r, whole * block, length);
                 hand_back(&r, 0, length);
             }
             for (size_t k = 0; k < COUNT(huge); k++) {
+                begin(&r, whole * block, huge[k]);
                 hand_back(&r, 0, huge[k]);
             }
-            if (r.blocks == totals[i] / block) {
+            if (left == 0) {
                 break;
             }
-            r = hand_back_next(&r).next;
+            r = left > whole ? begin_order(&r)->next : hand_back_block(&r, left - 1)->next;
         }
     }
 }
@@ -393,19 +388,21 @@ static void try_keeps(uint64_t w)
     fill(&lent);
     make_new_roll(roll_len);
     for (size_t i = 0; i < COUNT(totals); i++) {
-        const lsh_record before = order_of(w, 8 * w, totals[i]);
-        for (lsh_record r = begin_order(&before).next;; r = hand_back_next(&r).next) {
+        lsh_record r = order_of(w, 8 * w, totals[i])->next;
+        r = begin_order(&r)->next;
+        for (size_t left = totals[i] / block;; left--) {
             for (uint64_t keep = 0; keep <= block + 1; keep++) {
                 end(&r, keep);
                 end_roll(&r, keep, roll_len);
             }
             for (size_t k = 0; k < COUNT(huge); k++) {
-                check(end(&r, huge[k]).number == LSH_BAD_KEEP, "%" PRIu64 " bytes are kept", huge[k]);
-                check(end_roll(&r, huge[k], roll_len).number == LSH_BAD_KEEP, "%" PRIu64 " bytes are kept", huge[k]);
+                check(end(&r, huge[k])->number == LSH_BAD_KEEP, "%" PRIu64 " bytes are kept", huge[k]);
+                check(end_roll(&r, huge[k], roll_len)->number == LSH_BAD_KEEP, "%" PRIu64 " bytes are kept", huge[k]);
             }
-            if (r.blocks == totals[i] / block) {
+            if (left == 0) {
                 break;
             }
+            r = hand_back_block(&r, left - 1)->next;
         }
     }
 }
@@ -505,7 +502,7 @@ struct arguments {
     size_t roll_len;
 };
 
-static lsh_outcome make(enum call call, const struct arguments *given)
+static const lsh_outcome *make(enum call call, const struct arguments *given)
 {
     switch (call) {
     case BEGIN: return begin(&given->r, given->from, given->length);
@@ -513,8 +510,8 @@ static lsh_outcome make(enum call call, const struct arguments *given)
     case END: return end(&given->r, given->keep);
     case END_ROLL: return end_roll(&given->r, given->keep, given->roll_len);
     case ABANDON: return abandon(&given->r);
-    case APPEND: return append(&given->r, &lent, given->from, given->length);
-    case REWIND: return rewind_order(&given->r, given->keep, &lent, given->from, given->length);
+    case APPEND: return append(&given->r, given->from, given->length);
+    case REWIND: return rewind_order(&given->r, given->keep, given->from, given->length);
     case APPEND_ROLL: return append_roll(&given->r, given->from, given->length, given->roll_len);
     default: return rewind_roll(&given->r, given->keep, given->from, given->length, given->roll_len);
     }
@@ -526,11 +523,11 @@ static lsh_record order, begun, all_handed;
 static void make_orders(uint64_t w)
 {
     fill(&lent);
-    order = order_of(w, 8 * w, INTERVAL(w) + 44);
-    begun = begin_order(&order).next;
+    order = order_of(w, 8 * w, INTERVAL(w) + 44)->next;
+    begun = begin_order(&order)->next;
     all_handed = begun;
-    while (all_handed.blocks < LSH_CHECKPOINT_BLOCKS) {
-        all_handed = hand_back_next(&all_handed).next;
+    for (size_t i = LSH_CHECKPOINT_BLOCKS; i > 0; i--) {
+        all_handed = hand_back_block(&all_handed, i - 1)->next;
     }
 }
 
@@ -631,7 +628,7 @@ static void try_refusals(uint64_t w, enum call call)
             }
         }
         struct arguments given = arguments_for(w, call, wrong);
-        uint32_t number = make(call, &given).number;
+        uint32_t number = make(call, &given)->number;
         check(number == first, "%s answers %" PRIu32 ", not %" PRIu32 ", to refusals %#x", names[call], number, first, wrong);
     }
 }
@@ -641,15 +638,16 @@ static void try_refusals(uint64_t w, enum call call)
 /* All calls on a record, with arguments that are right if it is sound and its total and word size are those of the order. */
 static void try_record(const lsh_record *r)
 {
+    static struct arguments given;
     uint64_t w = order.w;
-    struct arguments given = {.r = *r, .roll_len = LSH_ROLL_BYTES(w, 1)};
+    given = (struct arguments){.r = *r, .roll_len = LSH_ROLL_BYTES(w, 1)};
     memcpy(buffer(&lent), r->held, 44);
     for (enum call call = BEGIN; call < CALLS; call++) {
         given.length = call == HAND_BACK ? LSH_BLOCK_BYTES(w) : 44;
         make(call, &given);
         put_back(&roll);
     }
-    close_order(r, 0, 0, &output, LSH_RECEIPT_BYTES);
+    close_order(r, 0, 0, LSH_RECEIPT_BYTES);
 }
 
 /* A record with each of the numbers before and behind the chains changed. Some of the large ones would be right if they were cut to 8 or 32
@@ -660,7 +658,8 @@ static void try_numbers(const lsh_record *sound)
     const uint64_t marks[] = {0, 1, 2, 3, 255, 256, 257, TWO_TO_32, TWO_TO_32 + 1, TWO_TO_63, TWO_TO_63 + 1, UINT64_MAX};
     const uint64_t blocks[] = {0, 1, whole - 1, whole, whole + 1, 256, 257, TWO_TO_32, TWO_TO_32 + 1, wrapped, wrapped + 1, TWO_TO_63, UINT64_MAX};
     const uint64_t totals[] = {44, sound->total - 1, LSH_MOST_BYTES + 44, sound->total + LSH_MOST_BYTES, TWO_TO_63 + 44};
-    lsh_record r = *sound;
+    static lsh_record r;
+    r = *sound;
     for (size_t i = 0; i < COUNT(marks); i++) {
         r.mark = marks[i];
         try_record(&r);
@@ -690,9 +689,10 @@ static void try_numbers(const lsh_record *sound)
 /* A record with each word of both chains and each of the 256 places of both byte strings changed. */
 static void try_words_and_places(const lsh_record *sound)
 {
-    const uint64_t words[] = {0, TWO_TO_32 - 1, TWO_TO_32, UINT64_MAX};
+    static const uint64_t words[] = {0, TWO_TO_32 - 1, TWO_TO_32, UINT64_MAX};
+    static lsh_record r;
     for (size_t i = 0; i < 16; i++) {
-        lsh_record r = *sound;
+        r = *sound;
         r.chain[i] ^= 1;
         try_record(&r);
         r = *sound;
@@ -709,7 +709,7 @@ static void try_words_and_places(const lsh_record *sound)
         }
     }
     for (size_t i = 0; i < sizeof sound->held; i++) {
-        lsh_record r = *sound;
+        r = *sound;
         r.held[i] ^= (uint8_t)(1u << below(8));
         try_record(&r);
         r = *sound;
@@ -726,7 +726,8 @@ static void try_wrong_records(uint64_t w)
     const uint64_t handed[] = {0, 1, LSH_CHECKPOINT_BLOCKS};
     make_linked_roll(w, 1, 1);
     take_copy(&roll);
-    lsh_record sound = sound_record(w, total);
+    static lsh_record sound;
+    sound = sound_record(w, total);
     try_numbers(&sound);
     try_words_and_places(&sound);
     for (size_t i = 0; i < COUNT(handed); i++) {
@@ -742,6 +743,9 @@ int main(void)
     fill(&place);
     fill(&output);
     for (uint64_t w = 32; w <= 64; w += 32) {
+        fill(&lent);
+        try_every_cut(w);
+        memset(buffer(&lent), 0xa5, LARGEST); /* all blocks are the same */
         try_every_cut(w);
         try_cuts_about_checkpoints(w);
         for (size_t i = 0; i < COUNT(tried_slots); i++) {

@@ -24,6 +24,6 @@ abbrev pub mostNumbers : ℕ
 mostNumbers = 5
 
 -- ROOM: the bytes of the line buffer. What a line prints stands behind the line's name: its numbers, and then the digits of BYTES bytes at
--- most, or those of a chain and of the held bytes
+-- most, or two chains, the places for the bytes of two blocks and two numbers
 abbrev pub roomBytes : ℕ
 roomBytes = 2 * lineBytes + 1024

@@ -7,6 +7,7 @@ use crate::receipts;
 use crate::reply;
 use crate::reply::Reply;
 use crate::rolls;
+use crate::steps;
 use crate::words;
 use crate::words::WORDS;
 use crate::words::Words;
@@ -30,8 +31,8 @@ pub fn answer(n: usize, buffer: &[u8], k: Kept, given: &mut [u8], lent: &mut [u8
 // The words of a line. The table has the name and the form of each kind of line; the kinds are counted in its order.
 fn read(line: &[u8], given: &mut [u8], lent: &mut [u8]) -> Words {
     let forms =
-        b"open nn append b rewind nb close lns record - set nnnbb whole nnblns same bb tally b forward nob backward nob \
-          roll r rollset c showroll - appendroll b rewindroll nb";
+        b"open nn append b rewind nb close lns record - set nnnbbnbbn whole nnblns same bb tally b forward nob backward nob \
+          roll r rollset c showroll - appendroll b rewindroll nb endroll n begin b handback b end n abandon -";
     let place = script::place(forms, script::word(line, 0));
     let form = script::word(forms, std::num::wrapping_add_usize(place, 1));
     words::read(place, line, form, given, lent)
@@ -84,7 +85,8 @@ fn call(kind: usize, v: [u64; WORDS], r: Record, given: &[u8], output: &mut [u8]
         8 => receipts::tally(v, r, given),
         9 => blocks::forward(v, r, given, output),
         10 => blocks::backward(v, r, given, output),
-        11..=15 => rolls::call(kind, v, r, given, output),
+        11..=16 => rolls::call(kind, v, r, given, output),
+        17..=20 => steps::call(kind, v, r, given),
         SILENT => reply::plain(reply::NOTHING, r),
         TOO_LONG => reply::plain(reply::TOO_LONG, r),
         _ => reply::plain(reply::NOT_A_CALL, r),

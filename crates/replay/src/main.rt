@@ -6,6 +6,7 @@ mod order;
 mod receipts;
 mod reply;
 mod rolls;
+mod steps;
 mod words;
 
 ghost use mathlib.Core.Path.{_≡_};

@@ -219,15 +219,29 @@ fn put_bytes(line: &mut [u8], from: usize, s: &[u8]) -> usize
     text::put_bytes(line, a, s)
 }
 
-// The chain and the held bytes of the record.
+// The words of the record behind its numbers: the chain and the held bytes, and how far a split rewind is.
 fn put_record(line: &mut [u8], from: usize, r: Record) -> usize
     requires { ⌜ (roomBytes ≤ length (now line)) × (from ≤ lineBytes + mostNumbers * (1 + mostDigits)) ⌝ }
     ensures { λ e. ⌜ e < roomBytes ⌝ }
 {
     let chain = r.chain;
-    let a = put_chain(line, from, chain);
     let held = r.held;
-    put_held(line, a, held)
+    let s = r.split;
+    let second = s.second;
+    let back = s.back;
+    let a = put_state(line, from, chain, held);
+    let b = put_next(line, a, s.mark);
+    let e = put_state(line, b, second, back);
+    put_next(line, e, s.blocks)
+}
+
+// A chain and the places for a block's bytes.
+fn put_state(line: &mut [u8], from: usize, chain: [u64; 16], bytes: [u8; LONGEST_BLOCK]) -> usize
+    requires { ⌜ from + 4 + 2 * wideChain + 2 * longestBlock ≤ length (now line) ⌝ }
+    ensures { λ r. ⌜ r ≤ from + 4 + 2 * wideChain + 2 * longestBlock ⌝ }
+{
+    let a = put_chain(line, from, chain);
+    put_bytes(line, a, &bytes)
 }
 
 // A space and the words of a chain, sixteen digits each.
@@ -247,11 +261,4 @@ fn chain_bytes(chain: [u64; 16]) -> [u8; WIDE_CHAIN] {
         r[i] = word64::byte(t[i / 8], (7 - i % 8) as u32);
     }
     r
-}
-
-fn put_held(line: &mut [u8], from: usize, held: [u8; LONGEST_BLOCK]) -> usize
-    requires { ⌜ from + 2 + 2 * longestBlock ≤ length (now line) ⌝ }
-    ensures { λ r. ⌜ r ≤ from + 2 + 2 * longestBlock ⌝ }
-{
-    put_bytes(line, from, &held)
 }

@@ -18,7 +18,7 @@ pub struct Part {
 pub fn lent_part(kind: usize, size: u64, roll: u64, lent: &[u8]) -> Part
     ensures { λ p. ⌜ (p .from ≤ p .to) × (p .to ≤ length (now (lent .entry))) ⌝ }
 {
-    if (11 <= kind) & (kind <= 15) {
+    if (11 <= kind) & (kind <= 16) {
         return within(
             BYTES as u64,
             std::num::wrapping_add_u64(BYTES as u64, roll),
@@ -59,6 +59,7 @@ pub fn call(kind: usize, v: [u64; WORDS], r: Record, given: &[u8], roll: &mut [u
         13 => shown(r, roll),
         14 => append(v, r, given, roll),
         15 => rewind(v, r, given, roll),
+        16 => end(v, r, roll),
         _ => reply::plain(reply::NOT_A_CALL, r),
     }
 }
@@ -91,5 +92,11 @@ fn append(v: [u64; WORDS], r: Record, given: &[u8], roll: &mut [u8]) -> Reply {
 // rewindroll KEEP BYTES
 fn rewind(v: [u64; WORDS], r: Record, given: &[u8], roll: &mut [u8]) -> Reply {
     let o = rewind_roll::rewind_roll(r, v[0], words::part(given, 0, v[1]), roll);
+    reply::count(o.number, o.count, o.next)
+}
+
+// endroll KEEP
+fn end(v: [u64; WORDS], r: Record, roll: &mut [u8]) -> Reply {
+    let o = end_roll::end_roll(r, v[0], roll);
     reply::count(o.number, o.count, o.next)
 }

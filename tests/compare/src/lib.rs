@@ -71,6 +71,13 @@ impl Record {
     }
 }
 
+/// These bytes at the front of 256 places, the others zero.
+pub fn places(bytes: &[u8]) -> [u8; 256] {
+    let mut places = [0; 256];
+    places[..bytes.len()].copy_from_slice(bytes);
+    places
+}
+
 /// The answer to a call on an order.
 #[repr(C)]
 #[derive(Clone, Copy, PartialEq, Eq, Debug)]
@@ -300,9 +307,24 @@ impl Random {
         self.next() % limit
     }
 
+    pub fn one_of<T: Copy, const N: usize>(&mut self, choices: [T; N]) -> T {
+        choices[self.below(N as u64) as usize]
+    }
+
     /// A last byte that goes with e: its low 8 - e bits are 0.
     pub fn last_byte(&mut self, e: u64) -> u8 {
         last_byte(self.below(1 << e), e)
+    }
+
+    /// The words of a chain.
+    pub fn chain(&mut self, w: u64) -> [u64; 16] {
+        [(); 16].map(|()| self.next() >> (64 - w))
+    }
+
+    /// A sound record with this total, of no order most likely, and with no split rewind begun.
+    pub fn record(&mut self, w: u64, total: u64) -> Record {
+        let held = self.bytes((total % (4 * w)) as usize);
+        Record::none_begun(w, 1 + self.below(8 * w), total, self.chain(w), places(&held))
     }
 
     fn next(&mut self) -> u64 {

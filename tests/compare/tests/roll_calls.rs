@@ -198,15 +198,11 @@ impl Calls {
         self.random.below(limit as u64) as usize
     }
 
-    /// A sound record with this total, of no order most likely.
     fn record<W: Word>(&mut self, total: usize) -> Record {
-        let n = 1 + self.random.below(8 * W::BITS as u64);
-        let chain = lsh_ref::load_chain::<W>(&self.random.bytes(W::CHAIN_BYTES));
-        let held = self.random.bytes(total % W::BLOCK_BYTES);
-        record_after(n, total - held.len(), chain, &held)
+        self.random.record(W::BITS as u64, total as u64)
     }
 
-    /// Such a record with so many checkpoints, and held bytes mostly.
+    /// A record with so many checkpoints, and held bytes mostly.
     fn record_of_checkpoints<W: Word>(&mut self, checkpoints: usize) -> Record {
         let past = self.below(interval::<W>());
         self.record::<W>(checkpoints * interval::<W>() + past)

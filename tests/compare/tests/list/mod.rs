@@ -3,11 +3,11 @@
 //! chains of its checkpoints and differs from the roll before the call only where document 02 says so, and the blocks run forward are those
 //! run backward and the whole blocks of the tape.
 
-use crate::record::{places, record_after, record_line, record_of, set_line, words};
+use crate::record::{record_after, record_line, record_of, set_line, words};
 use crate::tape::{Answer, Tape};
 use compare::roll::{self, CHECKPOINT_BLOCKS};
 use compare::{
-    bit_length, hand_back_all, hex, receipt, Outcome, Random, Record, Script, ACCEPTED, BAD_ROLL, OUT_OF_TURN,
+    bit_length, hand_back_all, hex, places, receipt, Outcome, Random, Record, Script, ACCEPTED, BAD_ROLL, OUT_OF_TURN,
     RECEIPT_BYTES,
 };
 use lsh_ref::Word;
@@ -185,9 +185,11 @@ impl<'a, W: Word> List<'a, W> {
             assert!(*after == right, "the roll after {name}, {answer:?}");
         }
         assert_eq!(self.forward, self.backward + self.tape.whole_blocks());
-        self.compare_receipt();
         self.script.call(line, format!("{name} {} {}", answer.number, answer.count));
-        self.show();
+        self.compare_receipt();
+        if self.roll.as_ref().is_some_and(|roll| roll.len() <= LONG_ROLL) || self.below(16) == 0 {
+            self.show_roll();
+        }
     }
 
     // ---- what the tape shows ----
@@ -243,39 +245,31 @@ impl<'a, W: Word> List<'a, W> {
         let whole = self.tape.whole_blocks();
         let padded = lsh_ref::pad::<W>(&self.tape.bytes[whole * Self::BLOCK..], last, e as u32);
         let digest = lsh_ref::finalise(&lsh_ref::forward(&self.chains[whole], &padded), self.n);
-        let output = self.close(last, e);
-        assert_eq!(output, self.output(&digest, e), "the receipt");
+        let output = self.compare_close(last, e, &digest);
         if self.kind.steps {
-            let mut receipt = UNTOUCHED;
-            assert_eq!(compare::whole(Self::W, self.n, &self.tape.bytes, last, e, &mut receipt), ACCEPTED);
-            assert_eq!(output, receipt, "the receipt of lsh_whole");
+            let mut written = UNTOUCHED;
+            assert_eq!(compare::whole(Self::W, self.n, &self.tape.bytes, last, e, &mut written), ACCEPTED);
+            assert_eq!(output, written);
         }
-    }
-
-    /// What Close leaves in the output.
-    fn close(&self, last: u8, e: u64) -> Vec<u8> {
-        let mut output = UNTOUCHED.to_vec();
-        assert_eq!(compare::close(self.record, last, e, &mut output), ACCEPTED);
-        assert_eq!(bit_length(&output), 8 * self.tape.bytes.len() as u64 + e);
-        output
-    }
-
-    /// The output with the receipt of the tape's bytes and e bits more, which have this digest.
-    fn output(&self, digest: &[u8], e: u64) -> Vec<u8> {
-        let mut output = receipt(Self::W, self.n, digest, 8 * self.tape.bytes.len() as u64 + e);
-        output.extend(&UNTOUCHED[RECEIPT_BYTES..]);
-        output
-    }
-
-    fn show(&mut self) {
         if self.kind.steps && self.below(4) == 0 {
+            self.script_close(last, e, &output);
             self.show_record();
-            let closed = self.close(0, 0);
-            self.script.call(format!("close 00 0 {}", UNTOUCHED.len()), format!("close 0 {}", hex(&closed)));
         }
-        if self.roll.as_ref().is_some_and(|roll| roll.len() <= LONG_ROLL) || self.below(16) == 0 {
-            self.show_roll();
-        }
+    }
+
+    /// Close leaves the receipt of the tape's bytes and e bits more, which have this digest, and gives the output after it.
+    fn compare_close(&self, last: u8, e: u64, digest: &[u8]) -> Vec<u8> {
+        let bits = 8 * self.tape.bytes.len() as u64 + e;
+        let right = [receipt(Self::W, self.n, digest, bits), UNTOUCHED[RECEIPT_BYTES..].to_vec()].concat();
+        let mut output = UNTOUCHED;
+        assert_eq!(compare::close(self.record, last, e, &mut output), ACCEPTED);
+        assert_eq!(output[..], right);
+        assert_eq!(bit_length(&output), bits);
+        right
+    }
+
+    fn script_close(&mut self, last: u8, e: u64, output: &[u8]) {
+        self.script.call(format!("close {last:02x} {e} {}", UNTOUCHED.len()), format!("close 0 {}", hex(output)));
     }
 
     fn show_record(&mut self) {
@@ -300,9 +294,8 @@ impl<'a, W: Word> List<'a, W> {
         for e in 0..=7 {
             let last = self.random.last_byte(e);
             let digest = lsh_ref::hash_bits::<W>(self.n, &self.tape.bytes, last, e as u32);
-            let closed = self.output(&digest, e);
-            assert_eq!(self.close(last, e), closed);
-            self.script.call(format!("close {last:02x} {e} {}", UNTOUCHED.len()), format!("close 0 {}", hex(&closed)));
+            let output = self.compare_close(last, e, &digest);
+            self.script_close(last, e, &output);
         }
         self.show_roll();
         self.show_record();
@@ -350,36 +343,37 @@ impl<'a, W: Word> List<'a, W> {
     /// A step of a split rewind.
     fn random_step(&mut self) {
         let handed_back = self.tape.handed_back();
-        match self.below(12) {
+        let held = self.tape.held();
+        match self.below(15) {
             0..=2 => self.hand_back(),
-            3 => {
-                for _ in 0..self.below(self.tape.left() + 1) {
-                    self.hand_back();
-                }
+            3..=4 => {
+                let count = if self.tape.begun.is_some() { self.below(self.tape.left() + 1) } else { 0 };
+                (0..count).for_each(|_| self.hand_back());
             }
-            4..=5 => {
+            5..=7 => {
                 let keep = self.below(handed_back.min(Self::BLOCK - 1) + 1);
                 self.end(keep as u64);
             }
             // More than was handed back, or a block or more.
-            6 => {
-                let keep = [handed_back as u64 + 1, Self::BLOCK as u64, 1 << 32, u64::MAX][self.below(4)];
+            8 => {
+                let keep = self.random.one_of([handed_back as u64 + 1, Self::BLOCK as u64, 1 << 32, u64::MAX]);
                 self.end(keep);
             }
-            7 => self.abandon(),
-            8 => {
-                let block = self.random_piece(2 * Self::BLOCK + 1);
-                if block.len() != Self::BLOCK {
-                    self.hand_back_call(&block);
-                }
+            9 => self.abandon(),
+            // Of another length than a block.
+            10 => {
+                let size = self.random.one_of([0, 1, Self::BLOCK - 1, Self::BLOCK + 1, 2 * Self::BLOCK]);
+                let block = self.random.bytes(size);
+                self.hand_back_call(&block);
             }
-            // Not as many as the held ones, mostly.
-            9 => {
-                let size = self.below(self.tape.bytes.len().min(2 * Self::BLOCK) + 1);
-                self.begin(size);
+            // Of another length than the held bytes, mostly.
+            11 => {
+                let size = self.random.one_of([0, held.saturating_sub(1), held + 1, held + Self::BLOCK]);
+                self.begin(size.min(self.tape.bytes.len()));
             }
-            10 => self.refused_begin(),
-            _ => self.refused_end(),
+            12 => self.refused_begin(),
+            13 => self.refused_end(),
+            _ => self.refused_by_roll(),
         }
     }
 
@@ -463,6 +457,7 @@ impl<'a, W: Word> List<'a, W> {
         }
     }
 
+    /// 8: a begin with another held byte.
     fn refused_begin(&mut self) {
         let held = self.tape.held();
         if held > 0 {

@@ -1,6 +1,6 @@
 //! The record of an order's bytes, by lsh_ref.
 
-use compare::{hex, Record};
+use compare::{hex, places, Record};
 use lsh_ref::Word;
 
 /// The record of the bytes.
@@ -22,13 +22,6 @@ pub fn record_after<W: Word>(n: u64, done: usize, mut chain: [W; 16], bytes: &[u
 /// The words of a chain as a record has them.
 pub fn words<W: Word>(chain: &[W; 16]) -> [u64; 16] {
     chain.map(|word| word.to_u64())
-}
-
-/// These bytes at the front of 256 places, the others zero.
-pub fn places(bytes: &[u8]) -> [u8; 256] {
-    let mut places = [0; 256];
-    places[..bytes.len()].copy_from_slice(bytes);
-    places
 }
 
 /// The line that shows a record.
