@@ -15,7 +15,7 @@
 
 /* For a function with records of its own: the programs run with a small stack, and what is inlined makes the frames of its callers larger. Not
  * every program uses each of them. */
-#define APART __attribute__((noinline, unused)) static
+#define APART __attribute__((noinline, unused))
 
 /* Bytes of an order from one checkpoint to the next. */
 #define INTERVAL(w) ((size_t)LSH_CHECKPOINT_BLOCKS * LSH_BLOCK_BYTES(w))

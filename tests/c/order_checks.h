@@ -37,6 +37,12 @@ static void check_place(const lsh_outcome *right, const char *said)
     check(kept_except(&place, sizeof made), "%s writes outside its answer", said);
 }
 
+/* The bytes lent, after a call. */
+static void check_lent(const char *said)
+{
+    check(kept_except(&lent, 0), "%s writes to the bytes lent or around them", said);
+}
+
 /* Says what is tried on a record. */
 #define SAY(said, call, r, format, ...)                                                                                             \
     snprintf(said, sizeof said, call "(w = %" PRIu64 ", n = %" PRIu64 ", total = %" PRIu64 ", " format ")", (r)->w, (r)->n, (r)->total, \
@@ -44,14 +50,15 @@ static void check_place(const lsh_outcome *right, const char *said)
 
 /* ---- calls ---- */
 
-/* Each of these makes a call in both ways and checks all of it. What is returned is the last outcome, which is good until the next call. */
+/* Each of the functions below makes a call twice and checks all of it. The outcome that it returns stays until the next call: a record out of it
+ * is copied before it is tried. */
 
 /* The calls once more, as the archive has them: with the address of their answer. */
 void *open_to(void *answer, uint64_t w, uint64_t n) __asm__("lsh_open");
 void *append_to(void *answer, lsh_record r, const uint8_t *piece, size_t piece_len) __asm__("lsh_append");
 void *rewind_to(void *answer, lsh_record r, uint64_t keep, const uint8_t *h, size_t h_len) __asm__("lsh_rewind");
 
-APART const lsh_outcome *open_order(uint64_t w, uint64_t n)
+APART static const lsh_outcome *open_order(uint64_t w, uint64_t n)
 {
     char said[80];
     snprintf(said, sizeof said, "lsh_open(w = %" PRIu64 ", n = %" PRIu64 ")", w, n);
@@ -64,7 +71,7 @@ APART const lsh_outcome *open_order(uint64_t w, uint64_t n)
 }
 
 /* A piece may be said to be longer than its memory if the call has to be refused: a refused call reads nothing of it. */
-APART const lsh_outcome *append(const lsh_record *r, size_t from, size_t piece_len)
+APART static const lsh_outcome *append(const lsh_record *r, size_t from, size_t piece_len)
 {
     char said[200];
     SAY(said, "lsh_append", r, "%zu bytes", piece_len);
@@ -73,13 +80,14 @@ APART const lsh_outcome *append(const lsh_record *r, size_t from, size_t piece_l
     take_copy(&lent);
     lsh_outcome outcome = lsh_append(*r, piece, piece_len);
     check_outcome(&outcome, &right, said);
+    check_lent(said);
     append_to(place_for_answer(&place), *r, piece, piece_len);
     check_place(&right, said);
-    check(kept_except(&lent, 0), "%s writes to the piece or around it", said);
+    check_lent(said);
     return &made;
 }
 
-APART const lsh_outcome *rewind_order(const lsh_record *r, uint64_t keep, size_t from, size_t h_len)
+APART static const lsh_outcome *rewind_order(const lsh_record *r, uint64_t keep, size_t from, size_t h_len)
 {
     char said[200];
     SAY(said, "lsh_rewind", r, "keep = %" PRIu64 ", %zu bytes", keep, h_len);
@@ -88,13 +96,14 @@ APART const lsh_outcome *rewind_order(const lsh_record *r, uint64_t keep, size_t
     take_copy(&lent);
     lsh_outcome outcome = lsh_rewind(*r, keep, h, h_len);
     check_outcome(&outcome, &right, said);
+    check_lent(said);
     rewind_to(place_for_answer(&place), *r, keep, h, h_len);
     check_place(&right, said);
-    check(kept_except(&lent, 0), "%s writes to the bytes handed back or around them", said);
+    check_lent(said);
     return &made;
 }
 
-APART void close_order(const lsh_record *r, uint8_t last, uint64_t e, size_t output_len)
+APART static void close_order(const lsh_record *r, uint8_t last, uint64_t e, size_t output_len)
 {
     char said[200];
     SAY(said, "lsh_close", r, "last = %u, e = %" PRIu64 ", output of %zu bytes", last, e, output_len);

@@ -19,7 +19,7 @@ static bool are_words(uint64_t w, const uint64_t *chain)
     return true;
 }
 
-/* Whether the places of a record's 256 bytes are zero from one on. */
+/* Whether the 256 bytes of a record are zero from a place on. */
 static bool is_zero_from(size_t from, const uint8_t *bytes)
 {
     for (size_t i = from; i < 256; i++) {
@@ -85,7 +85,7 @@ static void run_block(block_call *call, uint64_t w, uint64_t *chain, const uint8
     }
 }
 
-APART lsh_outcome right_open(uint64_t w, uint64_t n)
+APART static lsh_outcome right_open(uint64_t w, uint64_t n)
 {
     static const uint8_t zeros[LSH_BLOCK_BYTES(64)];
     static const lsh_record no_record;
@@ -100,7 +100,7 @@ APART lsh_outcome right_open(uint64_t w, uint64_t n)
     return outcome;
 }
 
-APART lsh_outcome right_append(const lsh_record *r, const uint8_t *piece, size_t piece_len)
+APART static lsh_outcome right_append(const lsh_record *r, const uint8_t *piece, size_t piece_len)
 {
     if (!is_sound(r)) {
         return refused(LSH_UNSOUND_RECORD, r);
@@ -126,7 +126,7 @@ APART lsh_outcome right_append(const lsh_record *r, const uint8_t *piece, size_t
     return outcome;
 }
 
-APART lsh_outcome right_rewind(const lsh_record *r, uint64_t keep, const uint8_t *h, size_t h_len)
+APART static lsh_outcome right_rewind(const lsh_record *r, uint64_t keep, const uint8_t *h, size_t h_len)
 {
     if (!is_sound(r)) {
         return refused(LSH_UNSOUND_RECORD, r);

@@ -63,7 +63,7 @@ static void check_rewound(const lsh_outcome *outcome, size_t roll_len, const cha
 }
 
 /* A piece or a roll may be said to be longer than its memory if the call has to be refused for that: a refused call reads nothing of it. */
-APART const lsh_outcome *append_roll(const lsh_record *r, size_t from, size_t piece_len, size_t roll_len)
+APART static const lsh_outcome *append_roll(const lsh_record *r, size_t from, size_t piece_len, size_t roll_len)
 {
     char said[200];
     SAY(said, "lsh_append_roll", r, "%zu bytes, roll of %zu bytes", piece_len, roll_len);
@@ -74,15 +74,16 @@ APART const lsh_outcome *append_roll(const lsh_record *r, size_t from, size_t pi
     lsh_outcome outcome = lsh_append_roll(*r, piece, piece_len, buffer(&roll), roll_len);
     check_outcome(&outcome, &right, said);
     check_appended(r, piece, piece_len, roll_len, right.number, said);
+    check_lent(said);
     put_back(&roll);
     append_roll_to(place_for_answer(&place), *r, piece, piece_len, buffer(&roll), roll_len);
     check_place(&right, said);
     check_appended(r, piece, piece_len, roll_len, right.number, said);
-    check(kept_except(&lent, 0), "%s writes to the piece or around it", said);
+    check_lent(said);
     return &made;
 }
 
-APART const lsh_outcome *rewind_roll(const lsh_record *r, uint64_t keep, size_t from, size_t h_len, size_t roll_len)
+APART static const lsh_outcome *rewind_roll(const lsh_record *r, uint64_t keep, size_t from, size_t h_len, size_t roll_len)
 {
     char said[200];
     SAY(said, "lsh_rewind_roll", r, "keep = %" PRIu64 ", %zu bytes, roll of %zu bytes", keep, h_len, roll_len);
@@ -93,11 +94,12 @@ APART const lsh_outcome *rewind_roll(const lsh_record *r, uint64_t keep, size_t 
     lsh_outcome outcome = lsh_rewind_roll(*r, keep, h, h_len, buffer(&roll), roll_len);
     check_outcome(&outcome, &right, said);
     check_rewound(&right, roll_len, said);
+    check_lent(said);
     put_back(&roll);
     rewind_roll_to(place_for_answer(&place), *r, keep, h, h_len, buffer(&roll), roll_len);
     check_place(&right, said);
     check_rewound(&right, roll_len, said);
-    check(kept_except(&lent, 0), "%s writes to the bytes handed back or around them", said);
+    check_lent(said);
     return &made;
 }
 

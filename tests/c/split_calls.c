@@ -39,7 +39,7 @@ void *abandon_to(void *answer, lsh_record r) __asm__("lsh_abandon");
 
 /* Bytes, a block or a roll may be said to be longer than their memory if the call has to be refused for that: a refused call reads nothing of
  * them. */
-APART const lsh_outcome *begin(const lsh_record *r, size_t from, size_t bytes_len)
+APART static const lsh_outcome *begin(const lsh_record *r, size_t from, size_t bytes_len)
 {
     char said[200];
     SAY(said, "lsh_begin", r, PROGRESS ", %zu bytes", r->mark, r->blocks, bytes_len);
@@ -48,13 +48,14 @@ APART const lsh_outcome *begin(const lsh_record *r, size_t from, size_t bytes_le
     take_copy(&lent);
     lsh_outcome outcome = lsh_begin(*r, bytes, bytes_len);
     check_outcome(&outcome, &right, said);
+    check_lent(said);
     begin_to(place_for_answer(&place), *r, bytes, bytes_len);
     check_place(&right, said);
-    check(kept_except(&lent, 0), "%s writes to the bytes or around them", said);
+    check_lent(said);
     return &made;
 }
 
-APART const lsh_outcome *hand_back(const lsh_record *r, size_t from, size_t block_len)
+APART static const lsh_outcome *hand_back(const lsh_record *r, size_t from, size_t block_len)
 {
     char said[200];
     SAY(said, "lsh_hand_back", r, PROGRESS ", %zu bytes", r->mark, r->blocks, block_len);
@@ -63,13 +64,14 @@ APART const lsh_outcome *hand_back(const lsh_record *r, size_t from, size_t bloc
     take_copy(&lent);
     lsh_outcome outcome = lsh_hand_back(*r, block, block_len);
     check_outcome(&outcome, &right, said);
+    check_lent(said);
     hand_back_to(place_for_answer(&place), *r, block, block_len);
     check_place(&right, said);
-    check(kept_except(&lent, 0), "%s writes to the block or around it", said);
+    check_lent(said);
     return &made;
 }
 
-APART const lsh_outcome *end(const lsh_record *r, uint64_t keep)
+APART static const lsh_outcome *end(const lsh_record *r, uint64_t keep)
 {
     char said[200];
     SAY(said, "lsh_end", r, PROGRESS ", keep = %" PRIu64, r->mark, r->blocks, keep);
@@ -81,7 +83,7 @@ APART const lsh_outcome *end(const lsh_record *r, uint64_t keep)
     return &made;
 }
 
-APART const lsh_outcome *end_roll(const lsh_record *r, uint64_t keep, size_t roll_len)
+APART static const lsh_outcome *end_roll(const lsh_record *r, uint64_t keep, size_t roll_len)
 {
     char said[200];
     SAY(said, "lsh_end_roll", r, PROGRESS ", keep = %" PRIu64 ", roll of %zu bytes", r->mark, r->blocks, keep, roll_len);
@@ -97,7 +99,7 @@ APART const lsh_outcome *end_roll(const lsh_record *r, uint64_t keep, size_t rol
     return &made;
 }
 
-APART const lsh_outcome *abandon(const lsh_record *r)
+APART static const lsh_outcome *abandon(const lsh_record *r)
 {
     char said[200];
     SAY(said, "lsh_abandon", r, PROGRESS, r->mark, r->blocks);
@@ -111,8 +113,8 @@ APART const lsh_outcome *abandon(const lsh_record *r)
 
 /* ---- what is tried: orders ---- */
 
-/* An order's bytes stand at the front of the buffer. */
-APART const lsh_outcome *order_of(uint64_t w, uint64_t n, size_t total)
+/* The order of the first bytes of the buffer. */
+APART static const lsh_outcome *order_of(uint64_t w, uint64_t n, size_t total)
 {
     const lsh_record opened = open_order(w, n)->next;
     return append(&opened, 0, total);
@@ -151,7 +153,7 @@ static void check_unfinished(const lsh_record *before, const lsh_record *r)
 
 /* The end of a split rewind, made just before, gives what one rewind over the same bytes does; with a roll, whose copy is that before the end,
  * if its length is not 0. */
-APART void check_as_one_rewind(const lsh_record *before, uint64_t keep, size_t from, size_t roll_len)
+APART static void check_as_one_rewind(const lsh_record *before, uint64_t keep, size_t from, size_t roll_len)
 {
     const uint8_t *h = buffer(&lent) + from;
     size_t h_len = before->total - from;
@@ -198,7 +200,7 @@ static bool check_order(const lsh_record *r, size_t length)
     return is_right;
 }
 
-/* Of the bytes in the buffer. */
+/* With the bytes that the buffer has. */
 static void try_every_cut(uint64_t w)
 {
     const size_t block = LSH_BLOCK_BYTES(w), totals[] = {0, 1, block - 1, block, block + 1, 2 * block, 3 * block + 44};
@@ -297,7 +299,7 @@ static void try_changed_bytes(uint64_t w)
 
 /* ---- what is tried: any sound record ---- */
 
-/* Makes the opening chain the one that was reached. */
+/* Makes the chain that was reached the opening chain. */
 static void lead_to_opening(lsh_record *r)
 {
     lsh_outcome opened = right_open(r->w, r->n);
@@ -322,7 +324,8 @@ static lsh_record random_begun(uint64_t w, uint64_t total)
 
 static void try_random_record(uint64_t w)
 {
-    uint64_t total = next_random() % (LSH_MOST_BYTES + 1) >> below(40);
+    uint64_t total = next_random() % (LSH_MOST_BYTES + 1);
+    total >>= below(40);
     lsh_record r = random_begun(w, total);
     end(&r, below(LSH_BLOCK_BYTES(w)));
     end(&r, total % LSH_BLOCK_BYTES(w) + 1);
@@ -422,7 +425,7 @@ static void try_no_bytes(uint64_t w)
 
 /* ---- what is tried: buffers that are no roll ---- */
 
-/* The end of a record of so many checkpoints, before which all blocks but one were handed back. */
+/* Ends on a record of so many checkpoints, with all blocks but one handed back. */
 static void end_with_links(uint64_t w, uint64_t links, size_t roll_len)
 {
     lsh_record r = begun_record(w, links * INTERVAL(w) + LSH_BLOCK_BYTES(w) + 1, links * LSH_CHECKPOINT_BLOCKS);
@@ -648,6 +651,7 @@ static void try_record(const lsh_record *r)
         put_back(&roll);
     }
     close_order(r, 0, 0, LSH_RECEIPT_BYTES);
+    close_order(r, 0xff, UINT64_MAX, 0);
 }
 
 /* A record with each of the numbers before and behind the chains changed. Some of the large ones would be right if they were cut to 8 or 32

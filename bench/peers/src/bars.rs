@@ -1,6 +1,6 @@
 //! The ratios that are wanted of the module. They are printed and decide nothing.
 
-use crate::blocks::{APPEND, APPEND_ROLL, BACKWARD, FORWARD, REWIND};
+use crate::blocks::{APPEND, APPEND_ROLL, BACKWARD, FORWARD, REWIND, REWIND_STEPS};
 use crate::messages::{WHOLE_1_MIB, WHOLE_64_BYTES};
 use crate::peers::{CRYPTOPP, MODULE, REFERENCE};
 use crate::timing::{Rates, Task};
@@ -13,7 +13,7 @@ struct Bar {
     at_least: [(usize, f64); 2],
 }
 
-const BARS: [Bar; 7] = [
+const BARS: [Bar; 8] = [
     Bar {
         what: "forward, as a multiple of lsh_ref",
         work: FORWARD,
@@ -43,6 +43,12 @@ const BARS: [Bar; 7] = [
         work: REWIND,
         to: Task { peer: MODULE, work: APPEND },
         at_least: [(32, 0.9), (64, 0.9)],
+    },
+    Bar {
+        what: "Rewind in steps (an aim), as a part of Rewind",
+        work: REWIND_STEPS,
+        to: Task { peer: MODULE, work: REWIND },
+        at_least: [(32, 0.7), (64, 0.7)],
     },
     Bar {
         what: "a whole message of 1 MiB, as a multiple of Crypto++",

@@ -1,5 +1,5 @@
-//! Times block runs, Append without a roll and with one, Rewind, whole messages and Tally by the module, lsh_ref and
-//! Crypto++. `bench/run` builds and starts it.
+//! Times block runs, Append without a roll and with one, Rewind at one go and in steps, whole messages and Tally by the
+//! module, lsh_ref and Crypto++. `bench/run` builds and starts it.
 
 mod bars;
 mod blocks;
@@ -50,7 +50,7 @@ fn print_report(rates: &Rates) {
     println!("digests and all buffers were touched.");
     table::print("Whole blocks over 1 MiB", &blocks::COLUMNS, rates);
     let title =
-        format!("Append of 1 MiB to a new record, also with a new roll of {MOST_SLOTS} slots, and Rewind of 1 MiB");
+        format!("Append of 1 MiB to a new record, also with a new roll of {MOST_SLOTS} slots, and Rewind of 1 MiB, also in steps");
     table::print(&title, &blocks::RECORD_COLUMNS, rates);
     table::print("Whole messages, LSH-256-256 and LSH-512-512", &messages::COLUMNS, rates);
     till::print();

@@ -2,8 +2,8 @@
 
 use compare::roll::{roll_bytes, MOST_SLOTS};
 use compare::{
-    append, append_roll, block_backward, block_forward, open, rewind, tally, whole, Record, ACCEPTED, DIGEST_PLACE,
-    RECEIPT_BYTES,
+    append, append_roll, block_backward, block_forward, end, hand_back_all, open, rewind, tally, whole, Record,
+    ACCEPTED, DIGEST_PLACE, RECEIPT_BYTES,
 };
 use lsh_ref::Word;
 
@@ -101,12 +101,27 @@ pub fn module_append_roll<W: Word>(input: &[u8], roll: &mut [u8]) -> u64 {
     append_roll(opened, input, roll).next.chain[0]
 }
 
-/// Word 0 of the chain of a record after a Rewind of the input. The record has a chain of zeros and one block before
-/// the input, so that any chain reached is taken.
+/// Word 0 of the chain of a new record after an Append of the input in pieces of 64 bytes.
+pub fn module_append_pieces<W: Word>(input: &[u8]) -> u64 {
+    let opened = open(W::BITS as u64, digest_bits::<W>()).next;
+    input.chunks_exact(64).fold(opened, |record, piece| append(record, piece).next).chain[0]
+}
+
+/// Word 0 of the chain of a record after a Rewind of the input.
 pub fn module_rewind<W: Word>(input: &[u8]) -> u64 {
+    rewind(wound_back::<W>(input), 0, input).next.chain[0]
+}
+
+/// The same by a hand-back for each block.
+pub fn module_rewind_steps<W: Word>(input: &[u8]) -> u64 {
+    end(hand_back_all(wound_back::<W>(input), input), 0).next.chain[0]
+}
+
+/// The record that these begin with. It has a chain of zeros and one block before the input, so that any chain reached is
+/// taken.
+fn wound_back<W: Word>(input: &[u8]) -> Record {
     let total = (W::BLOCK_BYTES + input.len()) as u64;
-    let record = Record { w: W::BITS as u64, n: digest_bits::<W>(), total, chain: [0; 16], held: [0; 256] };
-    rewind(record, 0, input).next.chain[0]
+    Record::none_begun(W::BITS as u64, digest_bits::<W>(), total, [0; 16], [0; 256])
 }
 
 /// How many of the receipts are firsts, and how many blanks.

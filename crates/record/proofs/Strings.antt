@@ -1,9 +1,9 @@
 -- The record of a byte string within the limit is sound, it holds the bytes after the last whole block, and that of no bytes is what Open makes.
 -- Assumes nothing.
-use mathlib.Core.Path.{_≡_, refl, ap, _∙_}
+use mathlib.Core.Path.{_≡_, ap, _∙_}
 use mathlib.Core.Bool.{true}
 use mathlib.Core.List.{List, []}
-use Prim.Native.Nat.{ℕ, zero, suc, _-_, _%_, _^_, _≤_}
+use Prim.Native.Nat.{ℕ, _-_, _%_, _^_, _≤_}
 use native.Mathlib.Nat.{zero-mul, zero-div}
 use borrow.Author.Tests.{le-leb}
 use lib.ListN.{length, drop, replicate}

@@ -2,11 +2,11 @@
 -- back, and the end is that of one Rewind over their bytes, joined as in the order. By their types a record's chains have 16 words each, and the held bytes
 -- and those handed back last have as many places as a block has bytes at most.
 -- Assumes nothing.
-use mathlib.Core.Path.{_≡_, refl, sym, ap, ap₂, _∙_, subst}
-use mathlib.Core.Bool.{Bool, true, false, not, cond, _||_, _&&_}
+use mathlib.Core.Path.{_≡_, refl, sym, ap, _∙_, subst}
+use mathlib.Core.Bool.{Bool, true, false, not, cond}
 use mathlib.Core.List.{List, [], _∷_, _++_}
 use Prim.Native.Nat.{ℕ, _+_, _-_, _*_, _/_, _%_, _≤_, _<_, zero-le}
-use native.Mathlib.Nat.{add-mul, one-mul, mod-self, mul-le-mul-right, div-add-mod', mod-lt, zero-mul}
+use native.Mathlib.Nat.{add-mul, one-mul, mod-self, mod-lt, zero-mul}
 use native.Mathlib.Omega.{arith}
 use lib.Dec.{eqb}
 use lib.ListN.{length, take, drop, replicate, length-append}
@@ -26,15 +26,13 @@ use Rattle.equal.proofs.Equal.{equal-self, equal-true}
 use Rattle.record.specs.declared.Record.{Record}
 use Rattle.record.specs.declared.Split.{Split}
 use Rattle.record.specs.declared.Outcome.{Outcome}
-use Rattle.record.specs.Lists.{allZero}
-use Rattle.record.specs.Split.{notBegun, splitSound}
+use Rattle.record.specs.Split.{notBegun}
 use Rattle.record.specs.Record.{heldOf, heldLength, heldBytes, sound, isBegun, withSplit, stepped, refused}
 use Rattle.record.proofs.Lists.{all-zero}
 use Rattle.record.proofs.Sound.{Sound, sounds, chain-is, chain-below}
-use Rattle.record.proofs.Begun.{OneBegun, one-begun-sound, with-sound, begun-is, none-is}
-use Rattle.record.proofs.Held.{held-length}
+use Rattle.record.proofs.Begun.{OneBegun, one-begun-sound, with-sound, none-is}
 use Rattle.record.proofs.Strings.{filled-zero}
-use Rattle.rewind.specs.Rewind.{startsOffBlock, keepsTooMuch, heldDiffers, reached, openingDiffers, rewound, woundBack, rewindCall}
+use Rattle.rewind.specs.Rewind.{keepsTooMuch, heldDiffers, reached, openingDiffers, rewound, woundBack, rewindCall}
 use Rattle.rewind.proofs.Lengths.{OnBlock, starts-on, keeps-few}
 use Rattle.split_rewind.specs.Begin.{begun, beginCall}
 use Rattle.split_rewind.specs.HandBack.{noBlock, handedBack, handBackCall}

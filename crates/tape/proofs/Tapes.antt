@@ -2,20 +2,20 @@
 -- Assumes nothing.
 use mathlib.Core.Path.{_≡_, refl, sym, ap, _∙_, subst}
 use mathlib.Core.Bool.{Bool, true, false, not, cond}
-use mathlib.Core.List.{List, []}
+use mathlib.Core.List.{List}
 use Prim.Native.Nat.{ℕ, _+_, _-_, _/_, _≤_, _<_}
 use native.Mathlib.Omega.{arith}
 use lib.Dec.{eqb}
 use lib.ListN.{length, take, drop}
 use borrow.Author.Tests.{eqb-true, not-false}
-use Rattle.lsh.specs.WordSize.{WordSize, isWordSize, sizeOf, blockBytes}
+use Rattle.lsh.specs.WordSize.{isWordSize, sizeOf, blockBytes}
 use Rattle.lsh.specs.Padding.{restOf}
 use Rattle.runs.specs.Limits.{isDigestLength}
 use Rattle.equal.proofs.Equal.{equal-self}
 use Rattle.record.specs.declared.Record.{Record}
 use Rattle.record.specs.declared.Outcome.{Outcome}
 use Rattle.record.specs.Split.{notBegun}
-use Rattle.record.specs.Record.{heldLength, heldBytes, sound, isBegun, withSplit, recordOf, refused, stepped}
+use Rattle.record.specs.Record.{heldLength, sound, isBegun, withSplit, recordOf, refused, stepped}
 use Rattle.record.proofs.Begun.{not-begun-sound, with-sound}
 use Rattle.record.proofs.Strings.{held-record}
 use Rattle.append.specs.Append.{appendCall}
@@ -25,15 +25,14 @@ use Rattle.split_rewind.specs.HandBack.{noBlock, handedBack, handBackCall}
 use Rattle.split_rewind.specs.End.{endCall}
 use Rattle.split_rewind.specs.Abandon.{abandonCall}
 use Rattle.split_rewind.proofs.Lengths.{a-block}
-use Rattle.checkpoints.specs.Roll.{checkpoints, isRollOf}
-use Rattle.checkpoints.specs.Checkpoints.{unlinked}
+use Rattle.checkpoints.specs.Roll.{isRollOf}
 use Rattle.append_roll.specs.AppendRoll.{appendRollAnswer, appendRollCall, appendedRoll}
 use Rattle.rewind_roll.specs.RewindRoll.{rewindRollCall, cutRoll, rewoundRoll}
 use Rattle.end_roll.specs.EndRoll.{endRollCall, endedRoll}
 use Rattle.tape.specs.Sequence.{Given}
 use Rattle.tape.specs.Tape.{Lent, NoRoll, Roll, Slots, byLent, Tape, plain, wholeBlocks, stays, plainly, tapeAppend, tapeCut, tapeRewind}
 use Rattle.tape.specs.TapeSteps.{moved, tapeBegin, tapeHandBack, tapeHanded, tapeEnd, tapeAbandon, blockAfter, tapeSplit, tapeRecord}
-use Rattle.tape.specs.Calls.{ByteString, Call, Append, Rewind, Begin, HandBack, End, Abandon, Order, given, orderCall, tapeCall, HandsBack}
+use Rattle.tape.specs.Calls.{Call, Append, Rewind, Begin, HandBack, End, Abandon, Order, given, orderCall, tapeCall, HandsBack}
 use Rattle.tape.specs.TapeRoll.{TapeRoll, RollShows}
 use Rattle.tape.proofs.Simulation.{Follows}
 use Rattle.tape.proofs.Steps.{Kept, sound-is, idle-is}

@@ -1,15 +1,14 @@
 -- The record of the bytes s with a split rewind begun and k blocks handed back: it is sound, what was handed back are the last bytes of s, and what the
 -- steps make of it.
 -- Assumes nothing.
-use mathlib.Core.Path.{_≡_, refl, sym, ap, ap₂, _∙_, subst}
+use mathlib.Core.Path.{_≡_, refl, sym, ap, _∙_, subst}
 use mathlib.Core.Bool.{Bool, true, false, cond, not, _&&_, _||_, false≢true}
 use mathlib.Core.List.{List, [], _∷_, _++_}
 use Prim.Native.Nat.{ℕ, suc, _+_, _-_, _*_, _/_, _%_, _≤_, _<_, zero-le}
-use native.Mathlib.Nat.{sub-zero, zero-mul, one-mul, zero-div, mod-lt, div-add-mod', mul-add-div-right, mul-le-mul-right, suc-mul}
-use native.Mathlib.Numerals.{add-one}
+use native.Mathlib.Nat.{sub-zero, one-mul, zero-div, mod-lt, div-add-mod', mul-add-div-right, mul-le-mul-right, suc-mul}
 use native.Mathlib.Omega.{arith}
 use lib.Dec.{eqb}
-use lib.ListN.{length, take, drop, replicate, length-append, length-drop, length-replicate, take-append-drop}
+use lib.ListN.{length, take, drop, replicate, length-drop, length-replicate, take-append-drop}
 use lib.Seq.{take-at, take-take, length-take-le}
 use borrow.Author.Tests.{eq-eqb, ne-eqb, eqb-true}
 use Rattle.lsh.specs.WordSize.{WordSize, isWordSize, sizeOf, blockBytes}
@@ -20,7 +19,7 @@ use Rattle.lsh.specs.Padding.{firstBlocks, blocksOf, restOf}
 use Rattle.lsh.proofs.Figures.{amounts, block-some}
 use Rattle.lsh.proofs.Blocks.{forwards-chain, forwards-append, backwards-forwards}
 use Rattle.lsh.proofs.Opening.{opening-chain}
-use Rattle.lsh.proofs.Padding.{firstBlocks-more, firstBlocks-front, blockAt, length-rest, one-block}
+use Rattle.lsh.proofs.Padding.{firstBlocks-more, firstBlocks-front, length-rest, one-block}
 use Rattle.runs.specs.Limits.{longestBlock, isDigestLength}
 use Rattle.runs.proofs.Limits.{block-most}
 use Rattle.runs.proofs.Zeros.{drop-replicate, filled-length}
@@ -32,16 +31,16 @@ use Rattle.record.specs.declared.Record.{Record}
 use Rattle.record.specs.declared.Split.{Split}
 use Rattle.record.specs.declared.Outcome.{Outcome}
 use Rattle.record.specs.Split.{notBegun}
-use Rattle.record.specs.Record.{heldOf, heldLength, heldBytes, sound, isBegun, withSplit, recordOf, refused, stepped}
+use Rattle.record.specs.Record.{heldOf, heldBytes, sound, isBegun, withSplit, recordOf, refused}
 use Rattle.record.proofs.Lists.{all-zero}
 use Rattle.record.proofs.Sound.{chain-below}
 use Rattle.record.proofs.Begun.{one-begun-sound, with-sound}
 use Rattle.record.proofs.Strings.{held-record, filled-zero}
-use Rattle.rewind.specs.Rewind.{keepsTooMuch, heldDiffers, reached, woundBack}
+use Rattle.rewind.specs.Rewind.{keepsTooMuch, reached}
 use Rattle.rewind.proofs.Lengths.{OnBlock, keeps-few}
 use Rattle.split_rewind.specs.Begin.{begun}
 use Rattle.split_rewind.specs.HandBack.{handedBack}
-use Rattle.split_rewind.specs.End.{handed, lastBytes, endCall}
+use Rattle.split_rewind.specs.End.{lastBytes, endCall}
 use Rattle.split_rewind.specs.OneRewind.{answeredOn}
 use Rattle.split_rewind.proofs.Lengths.{before-is, blocks-on}
 use Rattle.split_rewind.proofs.OneRewind.{Arrays, Handed, end-is, wound}
