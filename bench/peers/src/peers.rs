@@ -2,7 +2,7 @@
 
 use compare::roll::{roll_bytes, MOST_SLOTS};
 use compare::{
-    append, append_roll, block_backward, block_forward, end, hand_back_all, open, rewind, tally, whole, Record,
+    append, append_roll, begin, block_backward, block_forward, end, hand_back, open, rewind, tally, whole, Record,
     ACCEPTED, DIGEST_PLACE, RECEIPT_BYTES,
 };
 use lsh_ref::Word;
@@ -103,8 +103,11 @@ pub fn module_append_roll<W: Word>(input: &[u8], roll: &mut [u8]) -> u64 {
 
 /// Word 0 of the chain of a new record after an Append of the input in pieces of 64 bytes.
 pub fn module_append_pieces<W: Word>(input: &[u8]) -> u64 {
-    let opened = open(W::BITS as u64, digest_bits::<W>()).next;
-    input.chunks_exact(64).fold(opened, |record, piece| append(record, piece).next).chain[0]
+    let mut outcome = open(W::BITS as u64, digest_bits::<W>());
+    for piece in input.chunks_exact(64) {
+        outcome = append(outcome.next, piece);
+    }
+    outcome.next.chain[0]
 }
 
 /// Word 0 of the chain of a record after a Rewind of the input.
@@ -112,9 +115,13 @@ pub fn module_rewind<W: Word>(input: &[u8]) -> u64 {
     rewind(wound_back::<W>(input), 0, input).next.chain[0]
 }
 
-/// The same by a hand-back for each block.
+/// The same by a hand-back for each block, as a driver makes them.
 pub fn module_rewind_steps<W: Word>(input: &[u8]) -> u64 {
-    end(hand_back_all(wound_back::<W>(input), input), 0).next.chain[0]
+    let mut outcome = begin(wound_back::<W>(input), &[]);
+    for block in input.chunks_exact(W::BLOCK_BYTES).rev() {
+        outcome = hand_back(outcome.next, block);
+    }
+    end(outcome.next, 0).next.chain[0]
 }
 
 /// The record that these begin with. It has a chain of zeros and one block before the input, so that any chain reached is

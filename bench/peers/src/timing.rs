@@ -52,19 +52,25 @@ impl<'a> Timing<'a> {
     }
 }
 
+/// How many places the rounds begin at in turn.
+const PLACES: usize = 256;
+
 /// Runs a round with its stack moved. The same code was some percent faster or slower from process to process, which
-/// moving the stack by multiples of 16 bytes evens out: probably by where a stack frame begins within a cache line. So
-/// the rounds go through all these places, and the best time is that of the best place for every task.
+/// moving the stack evens out: by where a stack frame begins within a page, it seems. A frame of `moved` has some
+/// multiple of 16 bytes, so the rounds go through many places of a page, and the best time is that of the best place for
+/// every task.
 pub fn run_moved(round: usize, run: &mut dyn FnMut()) {
-    let places = [moved_by::<16>, moved_by::<32>, moved_by::<48>, moved_by::<64>];
-    places[round % places.len()](run);
+    moved(round % PLACES, run);
 }
 
 #[inline(never)]
-fn moved_by<const BYTES: usize>(run: &mut dyn FnMut()) {
-    let room = [0u8; BYTES];
-    run();
-    black_box(&room); // so that the room is there during the run
+fn moved(frames: usize, run: &mut dyn FnMut()) {
+    if frames == 0 {
+        run();
+    } else {
+        moved(frames - 1, run);
+    }
+    black_box(frames); // so that the frame is there during the run
 }
 
 /// The rates reached, in the order of the timings.
