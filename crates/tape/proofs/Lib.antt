@@ -3,6 +3,7 @@ pub mod Simulation
 pub mod Steps
 pub mod Chains
 pub mod Orders
+pub mod OutOfTurn
 pub mod Unfinished
 pub mod Tapes
 pub mod Corrected

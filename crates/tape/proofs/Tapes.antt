@@ -26,7 +26,7 @@ use Rattle.split_rewind.specs.End.{endCall}
 use Rattle.split_rewind.specs.Abandon.{abandonCall}
 use Rattle.split_rewind.proofs.Lengths.{a-block}
 use Rattle.checkpoints.specs.Roll.{isRollOf}
-use Rattle.append_roll.specs.AppendRoll.{appendRollAnswer, appendRollCall, appendedRoll}
+use Rattle.append_roll.specs.AppendRoll.{appendRollCall, appendedRoll}
 use Rattle.rewind_roll.specs.RewindRoll.{rewindRollCall, cutRoll, rewoundRoll}
 use Rattle.end_roll.specs.EndRoll.{endRollCall, endedRoll}
 use Rattle.tape.specs.Sequence.{Given}
@@ -37,6 +37,7 @@ use Rattle.tape.specs.TapeRoll.{TapeRoll, RollShows}
 use Rattle.tape.proofs.Simulation.{Follows}
 use Rattle.tape.proofs.Steps.{Kept, sound-is, idle-is}
 use Rattle.tape.proofs.Orders.{Shows, append-alone, rewind-alone, append-with, rewind-with, cut-shows}
+use Rattle.tape.proofs.OutOfTurn.{append-17, append-roll-17, appended-17, rewind-17, rewind-roll-17, rewound-17, begin-17, hand-back-17, end-17, end-roll-17, ended-17, abandon-17}
 use Rattle.tape.proofs.Unfinished.{sound-y, begun-y, end-much, end-cut, block-more, none-yet}
 
 -- an order of the tape
@@ -78,64 +79,8 @@ module _ (w : ℕ) (word : isWordSize w ≡ true) (n : ℕ) (digest : isDigestLe
   still-either (Roll slots) number t roll after x o q shows of is also same =
       subst (λ (l : List ℕ). Follows (ShowsTape (Roll slots) w n) (given q l) (stays number t)) (sym same) (still (Roll slots) number t roll x q shows of also)
 
-  -- 17 where one is begun
-  module _ (x : Record) (ok : sound x ≡ true) (has : isBegun x ≡ true) where
-    append-17 : (p : List ℕ) → appendCall x p ≡ refused 17 x
-    unfolding appendCall
-    append-17 p = rw (ok, has)
-
-    answer-17 : (size : ℕ) (roll : List ℕ) → appendRollAnswer x size roll ≡ 17
-    unfolding appendRollAnswer
-    answer-17 size roll = rw (ok, has)
-
-    append-roll-17 : (p roll : List ℕ) → appendRollCall x p roll ≡ refused 17 x
-    unfolding appendRollCall
-    append-roll-17 p roll = rw (answer-17 (length p) roll)
-
-    appended-17 : (p roll : List ℕ) → appendedRoll x p roll ≡ roll
-    unfolding appendedRoll
-    appended-17 p roll = rw (answer-17 (length p) roll)
-
-    rewind-17 : (keep : ℕ) (h : List ℕ) → rewindCall x keep h ≡ refused 17 x
-    unfolding rewindCall
-    rewind-17 keep h = rw (ok, has)
-
-    rewind-roll-17 : (keep : ℕ) (h roll : List ℕ) → rewindRollCall x keep h roll ≡ refused 17 x
-    unfolding rewindRollCall
-    rewind-roll-17 keep h roll = rw (ok, has)
-
-    rewound-17 : (keep : ℕ) (h roll : List ℕ) → rewoundRoll x keep h roll ≡ roll
-    unfolding rewoundRoll cutRoll refused
-    rewound-17 keep h roll = rw (rewind-roll-17 keep h roll)
-
-    begin-17 : (h : List ℕ) → beginCall x h ≡ refused 17 x
-    unfolding beginCall
-    begin-17 h = rw (ok, has)
-
-  -- and where none is
-  module _ (x : Record) (ok : sound x ≡ true) (has : isBegun x ≡ false) where
-    hand-back-17 : (b : List ℕ) → handBackCall x b ≡ refused 17 x
-    unfolding handBackCall
-    hand-back-17 b = rw (ok, has)
-
-    end-17 : (keep : ℕ) → endCall x keep ≡ refused 17 x
-    unfolding endCall
-    end-17 keep = rw (ok, has)
-
-    end-roll-17 : (keep : ℕ) (roll : List ℕ) → endRollCall x keep roll ≡ refused 17 x
-    unfolding endRollCall
-    end-roll-17 keep roll = rw (ok, has)
-
-    ended-17 : (keep : ℕ) (roll : List ℕ) → endedRoll x keep roll ≡ roll
-    unfolding endedRoll cutRoll refused
-    ended-17 keep roll = rw (end-roll-17 keep roll)
-
-    abandon-17 : abandonCall x ≡ refused 17 x
-    unfolding abandonCall
-    abandon-17 = rw (ok, has)
-
   -- on the bytes s
-  module _ (s : List ℕ) (kept : Kept s) (lent : Lent) (roll : List ℕ) (shows : RollShows lent w n s roll) where
+  module _ (s : List ℕ) (kept : Kept s) where
     abbrev R : Record
     R = recordOf w n s
 
@@ -145,223 +90,191 @@ module _ (w : ℕ) (word : isWordSize w ≡ true) (n : ℕ) (digest : isDigestLe
     idle : isBegun R ≡ false
     idle = idle-is w word n digest s kept
 
-    -- with none begun
-    module _ (k : ℕ) where
-      abbrev P : Tape
-      P = record { bytes = s; begun = false; number = k }
+    -- the tape with none begun, and with k blocks handed back
+    abbrev idleTape : ℕ → Tape
+    idleTape k = record { bytes = s; begun = false; number = k }
 
-      plain-is : R ≡ tapeRecord w n P
-      unfolding tapeRecord withSplit recordOf
-      plain-is = refl
+    abbrev begunTape : ℕ → Tape
+    begunTape k = record { bytes = s; begun = true; number = k }
 
-      held-same : (h : List ℕ) → length h ≡ heldLength w (length s) → h ≡ restOf (sizeOf w) s → heldDiffers R h ≡ false
-      unfolding heldDiffers recordOf
-      held-same h size is =
-          let none : length h - heldLength w (length s) ≡ 0 = omega (arith, size) in
-          rw (none, is, held-record w n s word, equal-self (restOf (sizeOf w) s))
+    abbrev Y : ℕ → Record
+    Y k = withSplit R (tapeSplit w n s k)
 
-      begun-none : withSplit R (begun R) ≡ tapeRecord w n (record { bytes = s; begun = true; number = 0 })
-      unfolding tapeRecord
-      begun-none = ap (withSplit R) (none-yet w word n digest s kept)
+    idle-record : (k : ℕ) → R ≡ tapeRecord w n (idleTape k)
+    unfolding tapeRecord withSplit recordOf
+    idle-record k = refl
 
-      begin-plain : (h : List ℕ) → (tapeBegin w P (length h) .answer .number ≡ 0 → h ≡ restOf (sizeOf w) s)
-          → Follows (ShowsTape lent w n) (given (beginCall R h) roll) (tapeBegin w P (length h))
+    begun-record : (k : ℕ) → Y k ≡ tapeRecord w n (begunTape k)
+    unfolding tapeRecord
+    begun-record k = refl
+
+    held-same : (h : List ℕ) → length h ≡ heldLength w (length s) → h ≡ restOf (sizeOf w) s → heldDiffers R h ≡ false
+    unfolding heldDiffers recordOf
+    held-same h size is =
+        let none : length h - heldLength w (length s) ≡ 0 = omega (arith, size) in
+        rw (none, is, held-record w n s word, equal-self (restOf (sizeOf w) s))
+
+    -- what the steps leave
+    begun-none : withSplit R (begun R) ≡ tapeRecord w n (begunTape 0)
+    begun-none = ap (withSplit R) (none-yet w word n digest s kept) ∙ begun-record 0
+
+    module _ (k : ℕ) (le : k ≤ wholeBlocks w s) where
+      ok-y : sound (Y k) ≡ true
+      ok-y = sound-y w word n digest s kept k le
+
+      has-y : isBegun (Y k) ≡ true
+      has-y = begun-y w word n digest s kept k le
+
+      begun-more : (b : List ℕ) → b ≡ blockAfter w s (wholeBlocks w s - (k + 1)) → k < length s / B
+          → withSplit R (handedBack (Y k) b) ≡ tapeRecord w n (begunTape (k + 1))
+      unfolding wholeBlocks
+      begun-more b is less = ap (withSplit R) (block-more w word n digest s kept k le b is less) ∙ begun-record (k + 1)
+
+      -- the end, by keep
+      abbrev size : ℕ
+      size = tapeHanded w (begunTape k)
+
+      much-is : (keep : ℕ) → keepsTooMuch B keep size ≡ true → endCall (Y k) keep ≡ refused 7 (Y k)
+      unfolding tapeHanded
+      much-is keep much = end-much w word n digest s kept k le keep much
+
+      abbrev ended : ℕ → Outcome
+      ended keep = record { number = 0; count = size / B; next = recordOf w n (take (length s - size + keep) s) }
+
+      cut-is : (keep : ℕ) → keepsTooMuch B keep size ≡ false → endCall (Y k) keep ≡ ended keep
+      unfolding tapeHanded
+      cut-is keep few = end-cut w word n digest s kept k le keep few
+
+      cut-follows : (lent : Lent) (keep : ℕ) → keepsTooMuch B keep size ≡ false → (o : Outcome) → o ≡ endCall (Y k) keep
+          → (after : List ℕ) → RollShows lent w n (take (length s - size + keep) s) after
+          → Follows (ShowsTape lent w n) (given o after) (plainly (tapeCut w s keep size))
+      unfolding given plainly plain tapeCut tapeRecord withSplit recordOf
+      cut-follows lent keep few o is after shows =
+          record {
+            same = ap (λ (q : Outcome). record { number = q .number; count = q .count }) (is ∙ cut-is keep few);
+            shows = record { kept = ap (λ (q : Outcome). q .next) (is ∙ cut-is keep few); roll = shows };
+          }
+
+      -- a roll of the bytes is one of the record with the rewind begun
+      roll-is : (roll : List ℕ) → isRollOf R roll ≡ true → isRollOf (Y k) roll ≡ true
+      unfolding isRollOf withSplit
+      roll-is roll of = of
+
+      module _ (slots : Slots) (roll : List ℕ) (shows : TapeRoll w n (slots .count) s roll) where
+        roll-call : (keep : ℕ) → endRollCall (Y k) keep roll ≡ endCall (Y k) keep
+        unfolding endRollCall
+        roll-call keep = rw (ok-y, has-y, roll-is roll (shows .isOf))
+
+        -- the roll after the end, by the outcome
+        roll-after : (keep : ℕ) (o : Outcome) → endCall (Y k) keep ≡ o → endedRoll (Y k) keep roll ≡ cutRoll w o roll
+        unfolding endedRoll withSplit recordOf
+        roll-after keep o is = ap (λ (q : Outcome). cutRoll w q roll) (roll-call keep ∙ is)
+
+        roll-stays : cutRoll w (refused 7 (Y k)) roll ≡ roll
+        unfolding cutRoll refused
+        roll-stays = refl
+
+        roll-cut : (keep : ℕ) → TapeRoll w n (slots .count) (take (length s - size + keep) s) (cutRoll w (ended keep) roll)
+        unfolding cutRoll recordOf
+        roll-cut keep = cut-shows w word n digest s kept slots roll shows (length s - size + keep)
+
+      end-begun : (lent : Lent) (roll : List ℕ) → RollShows lent w n s roll → (keep : ℕ)
+          → Follows (ShowsTape lent w n)
+          (byLent lent (given (endCall (Y k) keep) roll) (given (endRollCall (Y k) keep roll) (endedRoll (Y k) keep roll)))
+          (tapeEnd w (begunTape k) keep)
+      unfolding tapeEnd
+      end-begun NoRoll roll shows keep = go (keepsTooMuch B keep size) refl
+        where
+          go : (t : Bool) → keepsTooMuch B keep size ≡ t
+              → Follows (ShowsTape NoRoll w n) (given (endCall (Y k) keep) roll) (cond t (stays 7 (begunTape k)) (plainly (tapeCut w s keep size)))
+          go true much = still NoRoll 7 (begunTape k) roll (Y k) (endCall (Y k) keep) shows (begun-record k) (much-is keep much)
+          go false few = cut-follows NoRoll keep few (endCall (Y k) keep) refl roll shows
+      end-begun (Roll slots) roll shows keep = go (keepsTooMuch B keep size) refl
+        where
+          call-is : endRollCall (Y k) keep roll ≡ endCall (Y k) keep
+          call-is = roll-call slots roll shows keep
+
+          go : (t : Bool) → keepsTooMuch B keep size ≡ t
+              → Follows (ShowsTape (Roll slots) w n) (given (endRollCall (Y k) keep roll) (endedRoll (Y k) keep roll))
+              (cond t (stays 7 (begunTape k)) (plainly (tapeCut w s keep size)))
+          go true much =
+              still-either (Roll slots) 7 (begunTape k) roll (endedRoll (Y k) keep roll) (Y k) (endCall (Y k) keep) (endRollCall (Y k) keep roll) shows (begun-record k)
+              (much-is keep much) (call-is ∙ much-is keep much) (roll-after slots roll shows keep (refused 7 (Y k)) (much-is keep much) ∙ roll-stays slots roll shows)
+          go false few =
+              cut-follows (Roll slots) keep few (endRollCall (Y k) keep roll) call-is (endedRoll (Y k) keep roll)
+              (subst (TapeRoll w n (slots .count) (take (length s - size + keep) s)) (sym (roll-after slots roll shows keep (ended keep) (cut-is keep few))) (roll-cut slots roll shows keep))
+
+    -- Append and Rewind where none is begun
+    append-plain : (lent : Lent) (roll : List ℕ) → RollShows lent w n s roll → (p : List ℕ)
+        → Follows (ShowsTape lent w n) (byLent lent (given (appendCall R p) roll) (given (appendRollCall R p roll) (appendedRoll R p roll))) (plainly (tapeAppend w lent s p))
+    append-plain NoRoll roll shows p = as-plain (append-alone w word n digest s kept p roll shows)
+    append-plain (Roll slots) roll shows p = as-plain (append-with w word n digest s kept slots roll shows p)
+
+    rewind-plain : (lent : Lent) (roll : List ℕ) → RollShows lent w n s roll → (keep : ℕ) (h : List ℕ)
+        → (tapeRewind w s keep (length h) .answer .number ≡ 0 → h ≡ drop (length s - length h) s)
+        → Follows (ShowsTape lent w n) (byLent lent (given (rewindCall R keep h) roll) (given (rewindRollCall R keep h roll) (rewoundRoll R keep h roll)))
+        (plainly (tapeRewind w s keep (length h)))
+    rewind-plain NoRoll roll shows keep h back = as-plain (rewind-alone w word n digest s kept keep h roll back shows)
+    rewind-plain (Roll slots) roll shows keep h back = as-plain (rewind-with w word n digest s kept slots roll shows keep h back)
+
+    -- each call, with the roll of the order
+    module _ (lent : Lent) (roll : List ℕ) (shows : RollShows lent w n s roll) (k : ℕ) where
+      begin-plain : (h : List ℕ) → (tapeBegin w (idleTape k) (length h) .answer .number ≡ 0 → h ≡ restOf (sizeOf w) s)
+          → Follows (ShowsTape lent w n) (given (beginCall R h) roll) (tapeBegin w (idleTape k) (length h))
       unfolding beginCall tapeBegin moved stays stepped refused recordOf
       begin-plain h back =
           rw (ok, idle)
           (choose (λ (o : Outcome). given o roll) (not (eqb (length h) (heldLength w (length s))))
-          (λ off. still lent 6 P roll R (refused 6 R) shows plain-is refl)
+          (λ off. still lent 6 (idleTape k) roll R (refused 6 R) shows (idle-record k) refl)
           (λ on.
-          let size : length h ≡ heldLength w (length s) = eqb-true (length h) (heldLength w (length s)) (not-false (eqb (length h) (heldLength w (length s))) on) in
-          rw (held-same h size (back (rw on)))
-          (still lent 0 (record { bytes = s; begun = true; number = 0 }) roll (withSplit R (begun R)) (stepped R (begun R)) shows begun-none refl)))
+          let as-many : length h ≡ heldLength w (length s) = eqb-true (length h) (heldLength w (length s)) (not-false (eqb (length h) (heldLength w (length s))) on) in
+          rw (held-same h as-many (back (rw on))) (still lent 0 (begunTape 0) roll (withSplit R (begun R)) (stepped R (begun R)) shows begun-none refl)))
 
-    -- with k blocks handed back
-    module _ (k : ℕ) (le : k ≤ wholeBlocks w s) where
-      abbrev Q : Tape
-      Q = record { bytes = s; begun = true; number = k }
+      -- where none is begun
+      on-plain : (c : Call) → HandsBack w lent (idleTape k) c
+          → Follows (ShowsTape lent w n) (orderCall lent (record { kept = R; roll = roll }) c) (tapeCall w lent (idleTape k) c)
+      unfolding plainly
+      on-plain (Append piece) back = append-plain lent roll shows (piece .list)
+      on-plain (Rewind keep h) back = rewind-plain lent roll shows keep (h .list) back
+      on-plain (Begin h) back = begin-plain (h .list) back
+      on-plain (HandBack b) back = still lent 17 (idleTape k) roll R (handBackCall R (b .list)) shows (idle-record k) (hand-back-17 R ok idle (b .list))
+      on-plain (End keep) back =
+          still-either lent 17 (idleTape k) roll (endedRoll R keep roll) R (endCall R keep) (endRollCall R keep roll) shows (idle-record k)
+          (end-17 R ok idle keep) (end-roll-17 R ok idle keep roll) (ended-17 R ok idle keep roll)
+      on-plain Abandon back = still lent 17 (idleTape k) roll R (abandonCall R) shows (idle-record k) (abandon-17 R ok idle)
 
-      abbrev Y : Record
-      Y = withSplit R (tapeSplit w n s k)
+      -- and where one is
+      module _ (le : k ≤ wholeBlocks w s) where
+        hand-back-begun : (b : List ℕ) → (tapeHandBack w (begunTape k) (length b) .answer .number ≡ 0 → b ≡ blockAfter w s (wholeBlocks w s - (k + 1)))
+            → Follows (ShowsTape lent w n) (given (handBackCall (Y k) b) roll) (tapeHandBack w (begunTape k) (length b))
+        unfolding handBackCall tapeHandBack moved stays stepped refused withSplit recordOf tapeSplit
+        hand-back-begun b back =
+            rw (ok-y k le, has-y k le)
+            (choose (λ (o : Outcome). given o roll) (noBlock B (length s) k (length b))
+            (λ off. still lent 6 (begunTape k) roll (Y k) (refused 6 (Y k)) shows (begun-record k) refl)
+            (λ on.
+            still lent 0 (begunTape (k + 1)) roll (withSplit R (handedBack (Y k) b)) (stepped (Y k) (handedBack (Y k) b)) shows
+            (begun-more k le b (back (rw on)) (a-block B (length s) k (length b) on .1)) refl))
 
-      begun-is : Y ≡ tapeRecord w n Q
-      unfolding tapeRecord
-      begun-is = refl
+        abandon-begun : Follows (ShowsTape lent w n) (given (abandonCall (Y k)) roll) (tapeAbandon (begunTape k))
+        unfolding abandonCall tapeAbandon stepped refused stays withSplit recordOf plain
+        abandon-begun = rw (ok-y k le, has-y k le) (still lent 0 (plain s) roll R (stepped (Y k) notBegun) shows (idle-record 0) refl)
 
-      more : (b : List ℕ) → b ≡ blockAfter w s (wholeBlocks w s - (k + 1)) → k < length s / B
-          → withSplit R (handedBack Y b) ≡ tapeRecord w n (record { bytes = s; begun = true; number = k + 1 })
-      unfolding tapeRecord wholeBlocks
-      more b is less = ap (withSplit R) (block-more w word n digest s kept k le b is less)
-
-      hand-back-begun : (b : List ℕ) → (tapeHandBack w Q (length b) .answer .number ≡ 0 → b ≡ blockAfter w s (wholeBlocks w s - (k + 1)))
-          → Follows (ShowsTape lent w n) (given (handBackCall Y b) roll) (tapeHandBack w Q (length b))
-      unfolding handBackCall tapeHandBack moved stays stepped refused withSplit recordOf tapeSplit
-      hand-back-begun b back =
-          rw (sound-y w word n digest s kept k le, begun-y w word n digest s kept k le)
-          (choose (λ (o : Outcome). given o roll) (noBlock B (length s) k (length b))
-          (λ off. still lent 6 Q roll Y (refused 6 Y) shows begun-is refl)
-          (λ on.
-          still lent 0 (record { bytes = s; begun = true; number = k + 1 }) roll (withSplit R (handedBack Y b)) (stepped Y (handedBack Y b)) shows
-          (more b (back (rw on)) (a-block B (length s) k (length b) on .1)) refl))
-
-      abandon-begun : Follows (ShowsTape lent w n) (given (abandonCall Y) roll) (tapeAbandon Q)
-      unfolding abandonCall tapeAbandon stepped refused stays withSplit recordOf plain
-      abandon-begun =
-          rw (sound-y w word n digest s kept k le, begun-y w word n digest s kept k le)
-          (still lent 0 (plain s) roll R (stepped Y notBegun) shows (plain-is 0) refl)
-
-      -- the end, by keep
-      abbrev x : ℕ → ℕ
-      x keep = length s - tapeHanded w Q + keep
-
-      much-is : (keep : ℕ) → keepsTooMuch B keep (tapeHanded w Q) ≡ true → endCall Y keep ≡ refused 7 Y
-      unfolding tapeHanded
-      much-is keep much = end-much w word n digest s kept k le keep much
-
-      cut-is : (keep : ℕ) → keepsTooMuch B keep (tapeHanded w Q) ≡ false
-          → _≡_ {A = Outcome} (endCall Y keep) (record { number = 0; count = tapeHanded w Q / B; next = recordOf w n (take (x keep) s) })
-      unfolding tapeHanded
-      cut-is keep few = end-cut w word n digest s kept k le keep few
-
-      cut-follows : (keep : ℕ) → keepsTooMuch B keep (tapeHanded w Q) ≡ false → (o : Outcome) → o ≡ endCall Y keep
-          → (after : List ℕ) → RollShows lent w n (take (x keep) s) after
-          → Follows (ShowsTape lent w n) (given o after) (plainly (tapeCut w s keep (tapeHanded w Q)))
-      unfolding given plainly plain tapeCut tapeRecord withSplit recordOf
-      cut-follows keep few o is after still-shows =
-          record {
-            same = ap (λ (q : Outcome). record { number = q .number; count = q .count }) (is ∙ cut-is keep few);
-            shows = record { kept = ap (λ (q : Outcome). q .next) (is ∙ cut-is keep few); roll = still-shows };
-          }
-
-  module _ (s : List ℕ) (kept : Kept s) (k : ℕ) (le : k ≤ wholeBlocks w s) where
-    abbrev E : Tape
-    E = record { bytes = s; begun = true; number = k }
-
-    abbrev X : Record
-    X = withSplit (recordOf w n s) (tapeSplit w n s k)
-
-    -- a roll of the bytes is one of the record with the rewind begun
-    roll-is : (roll : List ℕ) → isRollOf (recordOf w n s) roll ≡ true → isRollOf X roll ≡ true
-    unfolding isRollOf withSplit
-    roll-is roll of = of
-
-    roll-call : (slots : Slots) (roll : List ℕ) → TapeRoll w n (slots .count) s roll → (keep : ℕ) → endRollCall X keep roll ≡ endCall X keep
-    unfolding endRollCall
-    roll-call slots roll shows keep =
-        rw (sound-y w word n digest s kept k le, begun-y w word n digest s kept k le, roll-is roll (shows .isOf))
-
-    -- the roll after the end, by the outcome
-    roll-after : (slots : Slots) (roll : List ℕ) → TapeRoll w n (slots .count) s roll → (keep : ℕ) (o : Outcome) → endCall X keep ≡ o
-        → endedRoll X keep roll ≡ cutRoll w o roll
-    unfolding endedRoll withSplit recordOf
-    roll-after slots roll shows keep o is = ap (λ (q : Outcome). cutRoll w q roll) (roll-call slots roll shows keep ∙ is)
-
-    roll-stays : (roll : List ℕ) → cutRoll w (refused 7 X) roll ≡ roll
-    unfolding cutRoll refused
-    roll-stays roll = refl
-
-    roll-cut : (slots : Slots) (roll : List ℕ) → TapeRoll w n (slots .count) s roll → (i count : ℕ)
-        → TapeRoll w n (slots .count) (take i s) (cutRoll w (record { number = 0; count = count; next = recordOf w n (take i s) }) roll)
-    unfolding cutRoll recordOf
-    roll-cut slots roll shows i count = cut-shows w word n digest s kept slots roll shows i
-
-    end-begun : (lent : Lent) (roll : List ℕ) → RollShows lent w n s roll → (keep : ℕ)
-        → Follows (ShowsTape lent w n) (byLent lent (given (endCall X keep) roll) (given (endRollCall X keep roll) (endedRoll X keep roll))) (tapeEnd w E keep)
-    unfolding tapeEnd
-    end-begun NoRoll roll shows keep = go (keepsTooMuch B keep (tapeHanded w E)) refl
-      where
-        go : (t : Bool) → keepsTooMuch B keep (tapeHanded w E) ≡ t
-            → Follows (ShowsTape NoRoll w n) (given (endCall X keep) roll) (cond t (stays 7 E) (plainly (tapeCut w s keep (tapeHanded w E))))
-        go true much = still NoRoll 7 E roll X (endCall X keep) shows (begun-is s kept NoRoll roll shows k le) (much-is s kept NoRoll roll shows k le keep much)
-        go false few = cut-follows s kept NoRoll roll shows k le keep few (endCall X keep) refl roll shows
-    end-begun (Roll slots) roll shows keep = go (keepsTooMuch B keep (tapeHanded w E)) refl
-      where
-        call-is : endRollCall X keep roll ≡ endCall X keep
-        call-is = roll-call slots roll shows keep
-
-        go : (t : Bool) → keepsTooMuch B keep (tapeHanded w E) ≡ t
-            → Follows (ShowsTape (Roll slots) w n) (given (endRollCall X keep roll) (endedRoll X keep roll))
-            (cond t (stays 7 E) (plainly (tapeCut w s keep (tapeHanded w E))))
-        go true much =
-            let is = much-is s kept (Roll slots) roll shows k le keep much in
-            still-either (Roll slots) 7 E roll (endedRoll X keep roll) X (endCall X keep) (endRollCall X keep roll) shows (begun-is s kept (Roll slots) roll shows k le)
-            is (call-is ∙ is) (roll-after slots roll shows keep (refused 7 X) is ∙ roll-stays roll)
-        go false few =
-            let i : ℕ = length s - tapeHanded w E + keep in
-            let count : ℕ = tapeHanded w E / B in
-            let o : Outcome = record { number = 0; count = count; next = recordOf w n (take i s) } in
-            cut-follows s kept (Roll slots) roll shows k le keep few (endRollCall X keep roll) call-is (endedRoll X keep roll)
-            (subst (TapeRoll w n (slots .count) (take i s)) (sym (roll-after slots roll shows keep o (cut-is s kept (Roll slots) roll shows k le keep few)))
-            (roll-cut slots roll shows i count))
-
-  -- each call where none is begun
-  append-plain : (lent : Lent) (s : List ℕ) → Kept s → (roll : List ℕ) → RollShows lent w n s roll → (p : List ℕ)
-      → Follows (ShowsTape lent w n)
-      (byLent lent (given (appendCall (recordOf w n s) p) roll) (given (appendRollCall (recordOf w n s) p roll) (appendedRoll (recordOf w n s) p roll)))
-      (plainly (tapeAppend w lent s p))
-  append-plain NoRoll s kept roll shows p = as-plain (append-alone w word n digest s kept p roll shows)
-  append-plain (Roll slots) s kept roll shows p = as-plain (append-with w word n digest s kept slots roll shows p)
-
-  rewind-plain : (lent : Lent) (s : List ℕ) → Kept s → (roll : List ℕ) → RollShows lent w n s roll → (keep : ℕ) (h : List ℕ)
-      → (tapeRewind w s keep (length h) .answer .number ≡ 0 → h ≡ drop (length s - length h) s)
-      → Follows (ShowsTape lent w n)
-      (byLent lent (given (rewindCall (recordOf w n s) keep h) roll) (given (rewindRollCall (recordOf w n s) keep h roll) (rewoundRoll (recordOf w n s) keep h roll)))
-      (plainly (tapeRewind w s keep (length h)))
-  rewind-plain NoRoll s kept roll shows keep h back = as-plain (rewind-alone w word n digest s kept keep h roll back shows)
-  rewind-plain (Roll slots) s kept roll shows keep h back = as-plain (rewind-with w word n digest s kept slots roll shows keep h back)
-
-  module _ (lent : Lent) (s : List ℕ) (kept : Kept s) (roll : List ℕ) (shows : RollShows lent w n s roll) (k : ℕ) where
-    abbrev idleTape : Tape
-    idleTape = record { bytes = s; begun = false; number = k }
-
-    abbrev begunTape : Tape
-    begunTape = record { bytes = s; begun = true; number = k }
-
-    on-plain : (c : Call) → HandsBack w lent idleTape c
-        → Follows (ShowsTape lent w n) (orderCall lent (record { kept = recordOf w n s; roll = roll }) c) (tapeCall w lent idleTape c)
-    unfolding plainly
-    on-plain (Append piece) back = append-plain lent s kept roll shows (piece .list)
-    on-plain (Rewind keep h) back = rewind-plain lent s kept roll shows keep (h .list) back
-    on-plain (Begin h) back = begin-plain s kept lent roll shows k (h .list) back
-    on-plain (HandBack b) back =
-        let r = recordOf w n s in
-        let o = ok s kept lent roll shows in
-        let i = idle s kept lent roll shows in
-        still lent 17 idleTape roll r (handBackCall r (b .list)) shows (plain-is s kept lent roll shows k) (hand-back-17 r o i (b .list))
-    on-plain (End keep) back =
-        let r = recordOf w n s in
-        let o = ok s kept lent roll shows in
-        let i = idle s kept lent roll shows in
-        still-either lent 17 idleTape roll (endedRoll r keep roll) r (endCall r keep) (endRollCall r keep roll) shows (plain-is s kept lent roll shows k)
-        (end-17 r o i keep) (end-roll-17 r o i keep roll) (ended-17 r o i keep roll)
-    on-plain Abandon back =
-        let r = recordOf w n s in
-        still lent 17 idleTape roll r (abandonCall r) shows (plain-is s kept lent roll shows k) (abandon-17 r (ok s kept lent roll shows) (idle s kept lent roll shows))
-
-    -- and where one is
-    on-begun : k ≤ wholeBlocks w s → (c : Call) → HandsBack w lent begunTape c
-        → Follows (ShowsTape lent w n) (orderCall lent (record { kept = withSplit (recordOf w n s) (tapeSplit w n s k); roll = roll }) c) (tapeCall w lent begunTape c)
-    on-begun le (Append piece) back =
-        let r = withSplit (recordOf w n s) (tapeSplit w n s k) in
-        let o = sound-y w word n digest s kept k le in
-        let b = begun-y w word n digest s kept k le in
-        let p = piece .list in
-        still-either lent 17 begunTape roll (appendedRoll r p roll) r (appendCall r p) (appendRollCall r p roll) shows (begun-is s kept lent roll shows k le)
-        (append-17 r o b p) (append-roll-17 r o b p roll) (appended-17 r o b p roll)
-    on-begun le (Rewind keep h) back =
-        let r = withSplit (recordOf w n s) (tapeSplit w n s k) in
-        let o = sound-y w word n digest s kept k le in
-        let b = begun-y w word n digest s kept k le in
-        let p = h .list in
-        still-either lent 17 begunTape roll (rewoundRoll r keep p roll) r (rewindCall r keep p) (rewindRollCall r keep p roll) shows (begun-is s kept lent roll shows k le)
-        (rewind-17 r o b keep p) (rewind-roll-17 r o b keep p roll) (rewound-17 r o b keep p roll)
-    on-begun le (Begin h) back =
-        let r = withSplit (recordOf w n s) (tapeSplit w n s k) in
-        still lent 17 begunTape roll r (beginCall r (h .list)) shows (begun-is s kept lent roll shows k le)
-        (begin-17 r (sound-y w word n digest s kept k le) (begun-y w word n digest s kept k le) (h .list))
-    on-begun le (HandBack b) back = hand-back-begun s kept lent roll shows k le (b .list) back
-    on-begun le (End keep) back = end-begun s kept k le lent roll shows keep
-    on-begun le Abandon back = abandon-begun s kept lent roll shows k le
+        on-begun : (c : Call) → HandsBack w lent (begunTape k) c
+            → Follows (ShowsTape lent w n) (orderCall lent (record { kept = Y k; roll = roll }) c) (tapeCall w lent (begunTape k) c)
+        on-begun (Append piece) back =
+            let p = piece .list in
+            still-either lent 17 (begunTape k) roll (appendedRoll (Y k) p roll) (Y k) (appendCall (Y k) p) (appendRollCall (Y k) p roll) shows (begun-record k)
+            (append-17 (Y k) (ok-y k le) (has-y k le) p) (append-roll-17 (Y k) (ok-y k le) (has-y k le) p roll) (appended-17 (Y k) (ok-y k le) (has-y k le) p roll)
+        on-begun (Rewind keep h) back =
+            let p = h .list in
+            still-either lent 17 (begunTape k) roll (rewoundRoll (Y k) keep p roll) (Y k) (rewindCall (Y k) keep p) (rewindRollCall (Y k) keep p roll) shows (begun-record k)
+            (rewind-17 (Y k) (ok-y k le) (has-y k le) keep p) (rewind-roll-17 (Y k) (ok-y k le) (has-y k le) keep p roll) (rewound-17 (Y k) (ok-y k le) (has-y k le) keep p roll)
+        on-begun (Begin h) back =
+            still lent 17 (begunTape k) roll (Y k) (beginCall (Y k) (h .list)) shows (begun-record k) (begin-17 (Y k) (ok-y k le) (has-y k le) (h .list))
+        on-begun (HandBack b) back = hand-back-begun (b .list) back
+        on-begun (End keep) back = end-begun k le lent roll shows keep
+        on-begun Abandon back = abandon-begun
 
   -- each call, by the mark
   pub on-tape : (lent : Lent) (s : List ℕ) → Kept s → (roll : List ℕ) → RollShows lent w n s roll → (b : Bool) (k : ℕ) → k ≤ wholeBlocks w s → (c : Call)
@@ -369,13 +282,11 @@ module _ (w : ℕ) (word : isWordSize w ≡ true) (n : ℕ) (digest : isDigestLe
       → Follows (ShowsTape lent w n) (orderCall lent (record { kept = tapeRecord w n (record { bytes = s; begun = b; number = k }); roll = roll }) c)
       (tapeCall w lent (record { bytes = s; begun = b; number = k }) c)
   on-tape lent s kept roll shows false k le c back =
-      let t : Tape = record { bytes = s; begun = false; number = k } in
-      subst (λ (r : Record). Follows (ShowsTape lent w n) (orderCall lent (record { kept = r; roll = roll }) c) (tapeCall w lent t c))
-      (plain-is s kept lent roll shows k) (on-plain lent s kept roll shows k c back)
+      subst (λ (r : Record). Follows (ShowsTape lent w n) (orderCall lent (record { kept = r; roll = roll }) c) (tapeCall w lent (idleTape s kept k) c))
+      (idle-record s kept k) (on-plain s kept lent roll shows k c back)
   on-tape lent s kept roll shows true k le c back =
-      let t : Tape = record { bytes = s; begun = true; number = k } in
-      subst (λ (r : Record). Follows (ShowsTape lent w n) (orderCall lent (record { kept = r; roll = roll }) c) (tapeCall w lent t c))
-      (begun-is s kept lent roll shows k le) (on-begun lent s kept roll shows k le c back)
+      subst (λ (r : Record). Follows (ShowsTape lent w n) (orderCall lent (record { kept = r; roll = roll }) c) (tapeCall w lent (begunTape s kept k) c))
+      (begun-record s kept k) (on-begun s kept lent roll shows k le c back)
 
   -- the record of a tape is sound
   pub tape-sound : (s : List ℕ) → Kept s → (b : Bool) (k : ℕ) → k ≤ wholeBlocks w s → sound (tapeRecord w n (record { bytes = s; begun = b; number = k })) ≡ true
