@@ -147,8 +147,7 @@ pub fn is_sound(r: Record) -> bool
 pub fn is_begun(r: Record) -> bool
     ensures { λ b. ⌜ b ≡ isBegun r ⌝ }
 {
-    let s = r.split;
-    s.mark == 1
+    r.split.mark == 1
 }
 
 // Whether the record has of a split rewind what it may.

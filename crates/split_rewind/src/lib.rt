@@ -51,8 +51,7 @@ pub fn hand_back(r: Record, block: &[u8]) -> Outcome
     if !record::is_begun(r) {
         return record::refused(17, r);
     }
-    let s = r.split;
-    if no_block(r.w, r.total, s.blocks, block.len()) {
+    if no_block(r.w, r.total, r.split.blocks, block.len()) {
         return record::refused(6, r);
     }
     let next = handed_back(r, block);
@@ -83,7 +82,7 @@ fn handed_back(r: Record, block: &[u8]) -> Split
         mark: 1,
         second: c,
         back: back,
-        blocks: s.blocks + 1,
+        blocks: r.split.blocks + 1,
     }
 }
 
@@ -109,8 +108,7 @@ fn handed(r: Record) -> u64
     requires { ⌜ (sound r ≡ true) × (isBegun r ≡ true) ⌝ }
     ensures { λ n. ⌜ n ≡ handed r ⌝ }
 {
-    let s = r.split;
-    s.blocks * runs::block_bytes(r.w) as u64 + record::held_length(r.w, r.total) as u64
+    r.split.blocks * runs::block_bytes(r.w) as u64 + record::held_length(r.w, r.total) as u64
 }
 
 // Where the lengths are right: the bytes that remain are those of the block handed back last, or of the held part if none was.

@@ -25,7 +25,7 @@ use Rattle.checkpoints.specs.Roll.{newRoll, spacing, checkpoints}
 use Rattle.checkpoints.proofs.Form.{new-size, new-links, new-shown, new-roll, is-roll-of}
 use Rattle.tape.specs.Sequence.{Given, answers}
 use Rattle.tape.specs.Tape.{Lent, NoRoll, Roll, Tape, plain, wholeBlocks, tooManyBlocks, stays, plainly, tapeAppend, tapeCut, tapeRewind}
-use Rattle.tape.specs.TapeSteps.{moved, tapeBegin, tapeHandBack, tapeHanded, tapeEnd, tapeAbandon, tapeRecord}
+use Rattle.tape.specs.TapeSteps.{taken, moved, tapeBegin, tapeHandBack, tapeHanded, tapeEnd, tapeAbandon, tapeRecord}
 use Rattle.tape.specs.Calls.{Call, Append, Rewind, Begin, HandBack, End, Abandon, Order, orderCall, tapeCall, HandsBack, forwardCount, backwardCount}
 use Rattle.tape.specs.TapeRoll.{tapeChains, RollShows, lentRoll}
 use Rattle.tape.specs.Corrected.{newOrder, orderAfter, orderAnswers, tapeAfter, tapeAnswers, Premise, Corrected, byLength, allByLength}
@@ -53,7 +53,7 @@ handed-on w t kept = blocks-on (blockBytes (sizeOf w)) (length (t .bytes)) (t .n
 
 -- each call, by its kind
 pub call-kept : (w : ℕ) (lent : Lent) (t : Tape) (c : Call) → KeptTape w t → KeptTape w (tapeCall w lent t c .next)
-unfolding stays plainly moved tapeBegin tapeHandBack tapeEnd tapeAbandon tapeCut
+unfolding stays plainly taken moved tapeBegin tapeHandBack tapeEnd tapeAbandon tapeCut
 call-kept w lent t (Append piece) kept =
     either (λ (g : Given Tape). KeptTape w (g .next)) (t .begun) (λ begun. kept)
     (λ idle. plain-kept w _ (append-kept w lent (t .bytes) (piece .list) (piece .bytes) (kept .bytes)))
@@ -90,7 +90,7 @@ abbrev Counts : ℕ → Tape → Call → Given Tape → Type 0
 Counts w t c g = forwardCount c (g .answer) + wholeBlocks w (t .bytes) ≡ backwardCount c (g .answer) + wholeBlocks w (g .next .bytes)
 
 call-count : (w : ℕ) → isWordSize w ≡ true → (lent : Lent) (t : Tape) (c : Call) → KeptTape w t → Counts w t c (tapeCall w lent t c)
-unfolding stays plainly plain moved tapeBegin tapeHandBack tapeEnd tapeAbandon
+unfolding stays plainly plain taken moved tapeBegin tapeHandBack tapeEnd tapeAbandon
 call-count w word lent t (Append piece) kept =
     either (Counts w t (Append piece)) (t .begun) (λ begun. refl) (λ idle. append-count w word lent (t .bytes) (piece .list))
 call-count w word lent t (Rewind keep h) kept =
@@ -114,7 +114,7 @@ abbrev ByLength : {S : Type 0} → Given S → Type 0
 ByLength g = byLength (g .answer .number) ≡ true
 
 call-by-length : (w : ℕ) (lent : Lent) (t : Tape) (c : Call) → ByLength (tapeCall w lent t c)
-unfolding byLength tapeAppend tapeRewind tapeCut stays plainly moved tapeBegin tapeHandBack tapeEnd tapeAbandon
+unfolding byLength tapeAppend tapeRewind tapeCut stays plainly taken moved tapeBegin tapeHandBack tapeEnd tapeAbandon
 call-by-length w lent t (Append piece) =
     either ByLength (t .begun) (λ begun. refl)
     (λ idle.

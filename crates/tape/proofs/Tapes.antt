@@ -31,7 +31,7 @@ use Rattle.rewind_roll.specs.RewindRoll.{rewindRollCall, cutRoll, rewoundRoll}
 use Rattle.end_roll.specs.EndRoll.{endRollCall, endedRoll}
 use Rattle.tape.specs.Sequence.{Given}
 use Rattle.tape.specs.Tape.{Lent, NoRoll, Roll, Slots, byLent, Tape, plain, wholeBlocks, stays, plainly, tapeAppend, tapeCut, tapeRewind}
-use Rattle.tape.specs.TapeSteps.{moved, tapeBegin, tapeHandBack, tapeHanded, tapeEnd, tapeAbandon, blockAfter, tapeSplit, tapeRecord}
+use Rattle.tape.specs.TapeSteps.{taken, moved, tapeBegin, tapeHandBack, tapeHanded, tapeEnd, tapeAbandon, blockAfter, tapeSplit, tapeRecord}
 use Rattle.tape.specs.Calls.{Call, Append, Rewind, Begin, HandBack, End, Abandon, Order, given, orderCall, tapeCall, HandsBack}
 use Rattle.tape.specs.TapeRoll.{TapeRoll, RollShows}
 use Rattle.tape.proofs.Simulation.{Follows}
@@ -221,7 +221,7 @@ module _ (w : ℕ) (word : isWordSize w ≡ true) (n : ℕ) (digest : isDigestLe
     module _ (lent : Lent) (roll : List ℕ) (shows : RollShows lent w n s roll) (k : ℕ) where
       begin-plain : (h : List ℕ) → (tapeBegin w (idleTape k) (length h) .answer .number ≡ 0 → h ≡ restOf (sizeOf w) s)
           → Follows (ShowsTape lent w n) (given (beginCall R h) roll) (tapeBegin w (idleTape k) (length h))
-      unfolding beginCall tapeBegin moved stays stepped refused recordOf
+      unfolding beginCall tapeBegin taken moved stays stepped refused recordOf
       begin-plain h back =
           rw (ok, idle)
           (choose (λ (o : Outcome). given o roll) (not (eqb (length h) (heldLength w (length s))))
@@ -247,7 +247,7 @@ module _ (w : ℕ) (word : isWordSize w ≡ true) (n : ℕ) (digest : isDigestLe
       module _ (le : k ≤ wholeBlocks w s) where
         hand-back-begun : (b : List ℕ) → (tapeHandBack w (begunTape k) (length b) .answer .number ≡ 0 → b ≡ blockAfter w s (wholeBlocks w s - (k + 1)))
             → Follows (ShowsTape lent w n) (given (handBackCall (Y k) b) roll) (tapeHandBack w (begunTape k) (length b))
-        unfolding handBackCall tapeHandBack moved stays stepped refused withSplit recordOf tapeSplit
+        unfolding handBackCall tapeHandBack taken moved stays stepped refused withSplit recordOf tapeSplit
         hand-back-begun b back =
             rw (ok-y k le, has-y k le)
             (choose (λ (o : Outcome). given o roll) (noBlock B (length s) k (length b))
@@ -257,7 +257,7 @@ module _ (w : ℕ) (word : isWordSize w ≡ true) (n : ℕ) (digest : isDigestLe
             (begun-more k le b (back (rw on)) (a-block B (length s) k (length b) on .1)) refl))
 
         abandon-begun : Follows (ShowsTape lent w n) (given (abandonCall (Y k)) roll) (tapeAbandon (begunTape k))
-        unfolding abandonCall tapeAbandon stepped refused stays withSplit recordOf plain
+        unfolding abandonCall tapeAbandon taken stepped refused stays withSplit recordOf plain
         abandon-begun = rw (ok-y k le, has-y k le) (still lent 0 (plain s) roll R (stepped (Y k) notBegun) shows (idle-record 0) refl)
 
         on-begun : (c : Call) → HandsBack w lent (begunTape k) c

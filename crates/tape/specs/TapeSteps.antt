@@ -18,9 +18,13 @@ use Rattle.split_rewind.specs.HandBack.{noBlock}
 use Rattle.tape.specs.Sequence.{Given}
 use Rattle.tape.specs.Tape.{Tape, plain, wholeBlocks, stays, plainly, tapeCut}
 
--- the same bytes with one begun, and k blocks handed back; the answer is 0 and the count is 0
+-- an accepted step: its count is 0, and the tape is then as given here
+unfoldable pub taken : Tape → Given Tape
+taken t = record { answer = record { number = 0; count = 0 }; next = t }
+
+-- the same bytes with one begun, and k blocks handed back
 unfoldable pub moved : Tape → ℕ → Given Tape
-moved t k = stays 0 (record { bytes = t .bytes; begun = true; number = k })
+moved t k = taken (record { bytes = t .bytes; begun = true; number = k })
 
 -- size is the length of the bytes that the step brings
 unfoldable pub tapeBegin : ℕ → Tape → ℕ → Given Tape
@@ -39,7 +43,7 @@ tapeEnd w t keep =
     (plainly (tapeCut w (t .bytes) keep (tapeHanded w t)))
 
 unfoldable pub tapeAbandon : Tape → Given Tape
-tapeAbandon t = stays 0 (plain (t .bytes))
+tapeAbandon t = taken (plain (t .bytes))
 
 -- the tape's block after the first m
 unfoldable pub blockAfter : ℕ → List ℕ → ℕ → List ℕ

@@ -29,10 +29,10 @@ hand-back-spec =
     (λ c κs. search needs)
     (λ c.
     c .refused3 .ensures
-    ∙ rw (sound-is (c .before .before .before .before .before .before), begun-is (c .before .before .before .before), sym (c .before .before .no-block .ensures) ∙ c .before .if3 .taken))
-    (λ c κs. (sound-is (c .before .before .before .before .before), begun-is (c .before .before .before), sym (c .before .no-block .ensures) ∙ c .if3 .left))
+    ∙ rw (sound-is (c .before .before .before .before .before), begun-is (c .before .before .before), sym (c .before .before .no-block .ensures) ∙ c .before .if3 .taken))
+    (λ c κs. (sound-is (c .before .before .before .before), begun-is (c .before .before), sym (c .before .no-block .ensures) ∙ c .if3 .left))
     (λ c κs. search needs)
     (λ c.
     let e = c .before .before in
     c .stepped .ensures
-    ∙ rw (c .before .handed-back .ensures, sound-is (e .before .before .before .before .before), begun-is (e .before .before .before), sym (e .before .no-block .ensures) ∙ e .if3 .left)))
+    ∙ rw (c .before .handed-back .ensures, sound-is (e .before .before .before .before), begun-is (e .before .before), sym (e .before .no-block .ensures) ∙ e .if3 .left)))

@@ -18,7 +18,7 @@ handed-spec =
     tie.close
     (tie.spec
     (λ c κs. search needs)
-    (λ c. record { fits = rw (c .before .block-bytes .ensures) (omega (arith, few (c .before .before .before))) })
+    (λ c. record { fits = rw (c .before .block-bytes .ensures) (omega (arith, few (c .before .before))) })
     (λ c κs. search needs)
-    (λ c. record { fits = rw (c .before .before .block-bytes .ensures, c .held-length .ensures) (omega (arith, few (c .before .before .before .before))) })
+    (λ c. record { fits = rw (c .before .before .block-bytes .ensures, c .held-length .ensures) (omega (arith, few (c .before .before .before))) })
     (λ c. rw (c .before .before .block-bytes .ensures, c .held-length .ensures)))
