@@ -2,7 +2,7 @@
 -- does, and leaves an order of which the same holds with the bytes that are left. No split rewind is begun.
 -- Assumes nothing.
 use mathlib.Core.Path.{_≡_, refl, sym, ap, ap₂, _∙_, subst}
-use mathlib.Core.Bool.{Bool, true, false, cond}
+use mathlib.Core.Bool.{true, false, cond}
 use mathlib.Core.List.{List, [], _∷_, _++_}
 use Prim.Native.Nat.{ℕ, suc, _+_, _-_, _≤_}
 use native.Mathlib.Omega.{arith}
@@ -30,7 +30,7 @@ use Rattle.tape.specs.Sequence.{Given}
 use Rattle.tape.specs.Tape.{Lent, NoRoll, Roll, Slots, wholeBlocks, tooManyBlocks, stays, tapeAppend, tapeCut, tapeRewind}
 use Rattle.tape.specs.Calls.{Order, given}
 use Rattle.tape.specs.TapeRoll.{tapeChains, TapeRoll, RollShows}
-use Rattle.tape.proofs.Simulation.{Follows}
+use Rattle.tape.proofs.Simulation.{Follows, choose}
 use Rattle.tape.proofs.Steps.{either, Kept, sound-is, idle-is, append-next, rewind-step}
 use Rattle.tape.proofs.Chains.{chains-length, chains-take, chains-front, chains-cut, chain-appended, appended-chain}
 
@@ -38,13 +38,6 @@ use Rattle.tape.proofs.Chains.{chains-length, chains-take, chains-front
 pub record Shows (lent : Lent) (w n : ℕ) (o : Order) (s : List ℕ) : Type 0 where
   pub kept : o .kept ≡ recordOf w n s
   pub roll : RollShows lent w n s (o .roll)
-
--- a choice that both sides make by the same test
-choose : {lent : Lent} {w n : ℕ} {A : Type 0} (f : A → Given Order) (t : Bool) {x y : A} {u v : Given (List ℕ)}
-    → (t ≡ true → Follows (Shows lent w n) (f x) u) → (t ≡ false → Follows (Shows lent w n) (f y) v)
-    → Follows (Shows lent w n) (f (cond t x y)) (cond t u v)
-choose f true h k = h refl
-choose f false h k = k refl
 
 module _ (w : ℕ) (word : isWordSize w ≡ true) (n : ℕ) (digest : isDigestLength w n ≡ true) (s : List ℕ) (kept : Kept s) where
   abbrev Z : WordSize

@@ -6,6 +6,7 @@
 -- where each call moves a sum as it moves its two counts, every list of calls does.
 -- Assumes nothing.
 use mathlib.Core.Path.{_≡_, refl}
+use mathlib.Core.Bool.{Bool, true, false, cond}
 use mathlib.Core.List.{List, [], _∷_}
 use Prim.Native.Nat.{ℕ, _+_}
 use native.Mathlib.Omega.{arith}
@@ -15,6 +16,12 @@ use Rattle.tape.specs.Sequence.{Answer, Given, after, answers, Throughou
 pub record Follows {S R : Type 0} (Shows : R → S → Type 0) (g : Given R) (t : Given S) : Type 0 where
   pub same : g .answer ≡ t .answer
   pub shows : Shows (g .next) (t .next)
+
+-- a choice that both machines make by the same test
+pub choose : {S R A : Type 0} {Shows : R → S → Type 0} (f : A → Given R) (t : Bool) {x y : A} {u v : Given S}
+    → (t ≡ true → Follows Shows (f x) u) → (t ≡ false → Follows Shows (f y) v) → Follows Shows (f (cond t x y)) (cond t u v)
+choose f true h k = h refl
+choose f false h k = k refl
 
 -- of what is a function of the tape, as a record is: the same answer and that function of the tape that is left
 abbrev pub followed : {S R : Type 0} → (S → R) → Given S → Given R

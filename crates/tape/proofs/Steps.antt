@@ -169,7 +169,7 @@ module _ (w : ℕ) (word : isWordSize w ≡ true) where
           let k : length h - length s % B ≡ length h / B * B = omega (arith, same-fill B (length s) (length h) on, div-add-mod' (length h) B) in
           ap (λ (i : ℕ). drop i h) k ∙ sym (ap (restOf Z) joined ∙ rest-split Z some before whole h)
 
-      pub held-same : heldDiffers (recordOf w n s) h ≡ false
+      held-same : heldDiffers (recordOf w n s) h ≡ false
       unfolding heldDiffers recordOf
       held-same = rw (last-bytes, held-record w n s word, equal-self (restOf Z s))
 

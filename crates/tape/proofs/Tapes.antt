@@ -34,7 +34,7 @@ use Rattle.tape.specs.Tape.{Lent, NoRoll, Roll, Slots, byLent, Tape, pla
 use Rattle.tape.specs.TapeSteps.{taken, moved, tapeBegin, tapeHandBack, tapeHanded, tapeEnd, tapeAbandon, blockAfter, tapeSplit, tapeRecord}
 use Rattle.tape.specs.Calls.{Call, Append, Rewind, Begin, HandBack, End, Abandon, Order, given, orderCall, tapeCall, HandsBack}
 use Rattle.tape.specs.TapeRoll.{TapeRoll, RollShows}
-use Rattle.tape.proofs.Simulation.{Follows}
+use Rattle.tape.proofs.Simulation.{Follows, choose}
 use Rattle.tape.proofs.Steps.{Kept, sound-is, idle-is}
 use Rattle.tape.proofs.Orders.{Shows, append-alone, rewind-alone, append-with, rewind-with, cut-shows}
 use Rattle.tape.proofs.OutOfTurn.{append-17, append-roll-17, appended-17, rewind-17, rewind-roll-17, rewound-17, begin-17, hand-back-17, end-17, end-roll-17, ended-17, abandon-17}
@@ -49,13 +49,6 @@ pub record ShowsTape (lent : Lent) (w n : ℕ) (o : Order) (t : Tape) : Type 0 w
 as-plain : {lent : Lent} {w n : ℕ} {g : Given Order} {u : Given (List ℕ)} → Follows (Shows lent w n) g u → Follows (ShowsTape lent w n) g (plainly u)
 unfolding plainly plain tapeRecord withSplit recordOf
 as-plain f = record { same = f .same; shows = record { kept = f .shows .kept; roll = f .shows .roll } }
-
--- a choice that both sides make by the same test
-choose : {lent : Lent} {w n : ℕ} {A : Type 0} (f : A → Given Order) (t : Bool) {x y : A} {u v : Given Tape}
-    → (t ≡ true → Follows (ShowsTape lent w n) (f x) u) → (t ≡ false → Follows (ShowsTape lent w n) (f y) v)
-    → Follows (ShowsTape lent w n) (f (cond t x y)) (cond t u v)
-choose f true h k = h refl
-choose f false h k = k refl
 
 module _ (w : ℕ) (word : isWordSize w ≡ true) (n : ℕ) (digest : isDigestLength w n ≡ true) where
   abbrev B : ℕ
