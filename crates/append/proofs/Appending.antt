@@ -13,8 +13,8 @@ use Rattle.lsh.specs.Block.{forwards}
 use Rattle.lsh.specs.Padding.{blocksOf, restOf}
 use Rattle.lsh.proofs.Figures.{block-some}
 use Rattle.lsh.proofs.Blocks.{forwards-append}
-use Rattle.lsh.proofs.Padding.{blocks-short, rest-short, rest-first}
-use Rattle.lsh.proofs.Splitting.{blocks-split}
+use Rattle.lsh.proofs.Padding.{blocks-short, rest-short}
+use Rattle.lsh.proofs.Splitting.{blocks-split, rest-split}
 use Rattle.runs.specs.Limits.{longestBlock}
 use Rattle.runs.proofs.Limits.{block-most}
 use Rattle.runs.proofs.Zeros.{drop-replicate}
@@ -36,11 +36,10 @@ answered r size count chain held =
       next = record { w = r .w; n = r .n; total = r .total + size; chain = chain; held = held; split = r .split };
     }
 
--- one block, and then the blocks of what follows it
-forwards-first : (z : WordSize) (s p t : List ℕ) → 0 < blockBytes z → length s ≡ blockBytes z
+-- whole blocks, and then the blocks of what follows them
+forwards-first : (z : WordSize) (s p t : List ℕ) → 0 < blockBytes z → length s % blockBytes z ≡ 0
     → forwards z (blocksOf z (s ++ p)) t ≡ forwards z (blocksOf z p) (forwards z (blocksOf z s) t)
-forwards-first z s p t some e =
-    rw (blocks-split z some s (ap (λ (n : ℕ). n % blockBytes z) e ∙ mod-self (blockBytes z)) p) (forwards-append z (blocksOf z s) (blocksOf z p) t)
+forwards-first z s p t some whole = rw (blocks-split z some s whole p) (forwards-append z (blocksOf z s) (blocksOf z p) t)
 
 -- how many bytes are held, and how many the block begun has room for
 abbrev pub fill : Record → ℕ
@@ -116,4 +115,5 @@ module _ (r : Record) (ok : sound r ≡ true) (long : length (r .held) ≡ longe
       omega (arith, fill-lt r long, held-length r long, length-append (heldBytes r) p, length-drop (room r) p) in
       let c : length whole / B ≡ length after / B + 1 =
       omega (arith, ap (λ (n : ℕ). n / B) a ∙ mul-add-div-right some 1 (length after)) in
-      accepted ∙ rw (c, j, forwards-first Z first after (r .chain) some l, rest-first Z some first after l)
+      let one : length first % B ≡ 0 = ap (λ (n : ℕ). n % B) l ∙ mod-self B in
+      accepted ∙ rw (c, j, forwards-first Z first after (r .chain) some one, rest-split Z some first one after)

@@ -4,6 +4,7 @@ use mathlib.Core.Path.{_≡_, sym}
 use mathlib.Core.Bool.{true, false}
 use mathlib.Core.List.{List, _++_}
 use Prim.Native.Nat.{ℕ, _+_, _≤_}
+use native.Mathlib.Nat.{le-of-eq}
 use lib.ListN.{length}
 use Rattle.lsh.specs.WordSize.{WordSize, sizeOf}
 use Rattle.lsh.specs.Block.{Chain}
@@ -40,6 +41,6 @@ module _ (r : Record) (ok : sound r ≡ true) (words : length (r .chain) ≡ 16)
         digestLength = is .digestLength;
         few = within;
         below = chain-below (r .w) (appended r p .chain) (is .word) appended-chain;
-        zero = filled-zero longestBlock (restOf Z (heldBytes r ++ p)) _ (sym (rest-length r long p));
+        zero = filled-zero longestBlock (restOf Z (heldBytes r ++ p)) _ (le-of-eq (sym (rest-length r long p)));
         split = none-sound r ok idle (r .total + length p) (appended r p .chain);
       })

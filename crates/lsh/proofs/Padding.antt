@@ -3,7 +3,7 @@
 use mathlib.Core.Path.{_≡_, refl, sym, ap, _∙_}
 use mathlib.Core.List.{List, [], _∷_, _++_}
 use Prim.Native.Nat.{ℕ, zero, suc, _+_, _*_, _/_, _%_, _≤_, _<_}
-use native.Mathlib.Nat.{zero-add, suc-add, zero-mul, suc-mul, add-comm, add-mul, div-self, mod-self, le-of-eq, div-add-mod', mul-add-div-right, div-eq-of-lt}
+use native.Mathlib.Nat.{zero-add, suc-add, zero-mul, suc-mul, add-comm, add-mul, div-self, le-of-eq, div-add-mod', mul-add-div-right, div-eq-of-lt}
 use native.Mathlib.Numerals.{add-one}
 use native.Mathlib.Omega.{arith}
 use lib.ListN.{length, take, drop, length-append, length-drop}
@@ -100,12 +100,9 @@ module _ (z : WordSize) (some : 0 < blockBytes z) where
       empty [] e = refl
       empty (x ∷ xs) e = absurd (omega arith)
 
-  -- one block, and what follows it
+  -- one block
   pub one-block : (s : List ℕ) → length s ≡ blockBytes z → blocksOf z s ≡ wordsOf z 32 s ∷ []
   unfolding blocksOf firstBlocks
   one-block s e =
       ap (λ (k : ℕ). firstBlocks z k s) (ap (λ (n : ℕ). n / blockBytes z) e ∙ div-self some)
       ∙ ap (λ (b : List ℕ). wordsOf z 32 b ∷ []) (take-all (blockBytes z) s (le-of-eq e))
-
-  pub rest-first : (s p : List ℕ) → length s ≡ blockBytes z → restOf z (s ++ p) ≡ restOf z p
-  rest-first s p e = rw (rest-append s p, rest-none s (ap (λ (n : ℕ). n % blockBytes z) e ∙ mod-self (blockBytes z)))

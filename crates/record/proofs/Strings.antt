@@ -3,11 +3,12 @@
 use mathlib.Core.Path.{_≡_, ap, _∙_}
 use mathlib.Core.Bool.{true}
 use mathlib.Core.List.{List, []}
-use Prim.Native.Nat.{ℕ, _-_, _%_, _^_, _≤_}
-use native.Mathlib.Nat.{zero-mul, zero-div}
+use Prim.Native.Nat.{ℕ, _+_, _-_, _%_, _^_, _≤_}
+use native.Mathlib.Nat.{zero-mul, zero-div, le-of-eq}
+use native.Mathlib.Omega.{arith}
 use borrow.Author.Tests.{le-leb}
 use lib.ListN.{length, drop, replicate}
-use lib.Seq.{take-at, drop-at}
+use lib.Seq.{take-at, drop-append-add}
 use Rattle.lsh.specs.WordSize.{WordSize, isWordSize, sizeOf, blockBytes}
 use Rattle.lsh.specs.Block.{Chain, forwards}
 use Rattle.lsh.specs.Opening.{opening}
@@ -18,6 +19,7 @@ use Rattle.lsh.proofs.Opening.{opening-chain}
 use Rattle.lsh.proofs.Padding.{length-rest}
 use Rattle.runs.specs.Limits.{longestBlock, isDigestLength, limit}
 use Rattle.runs.specs.ZeroFilled.{zeroFilled}
+use Rattle.runs.proofs.Zeros.{drop-replicate}
 use Rattle.record.specs.Lists.{allBelow, allZero}
 use Rattle.record.specs.Record.{heldOf, sound, heldBytes, recordOf}
 use Rattle.record.specs.Open.{opened}
@@ -26,8 +28,13 @@ use Rattle.record.proofs.Sound.{chain-below}
 use Rattle.record.proofs.Begun.{not-begun-sound}
 
 -- what fills a string is 0
-pub filled-zero : (n : ℕ) (s : List ℕ) (k : ℕ) → length s ≡ k → allZero (drop k (zeroFilled n s)) ≡ true
-filled-zero n s k size = ap allZero (drop-at s (replicate (n - length s) 0) k size) ∙ all-zero (n - length s)
+pub filled-zero : (n : ℕ) (s : List ℕ) (k : ℕ) → length s ≤ k → allZero (drop k (zeroFilled n s)) ≡ true
+filled-zero n s k le =
+    let more : ℕ = k - length s in
+    let sum : k ≡ length s + more = omega (arith, le) in
+    ap (λ (i : ℕ). allZero (drop i (zeroFilled n s))) sum
+    ∙ ap allZero (drop-append-add s (replicate (n - length s) 0) more ∙ drop-replicate more (n - length s) 0)
+    ∙ all-zero (n - length s - more)
 
 module _ (w n : ℕ) (m : List ℕ) (word : isWordSize w ≡ true) where
   abbrev Z : WordSize
@@ -57,7 +64,7 @@ module _ (w n : ℕ) (m : List ℕ) (word : isWordSize w ≡ true) where
         digest,
         le-leb (length m) limit few,
         below,
-        filled-zero longestBlock (restOf Z m) (length m % blockBytes Z) size,
+        filled-zero longestBlock (restOf Z m) (length m % blockBytes Z) (le-of-eq size),
         not-begun-sound w (length m) chain,
       )
 

@@ -6,7 +6,7 @@ use mathlib.Core.Path.{_≡_, refl, sym, ap, _∙_, subst}
 use mathlib.Core.Bool.{Bool, true, false, not, cond}
 use mathlib.Core.List.{List, [], _∷_, _++_}
 use Prim.Native.Nat.{ℕ, _+_, _-_, _*_, _/_, _%_, _≤_, _<_, zero-le}
-use native.Mathlib.Nat.{add-mul, one-mul, mod-self, mod-lt, zero-mul}
+use native.Mathlib.Nat.{add-mul, one-mul, mod-self, mod-lt, zero-mul, le-of-eq}
 use native.Mathlib.Omega.{arith}
 use lib.Dec.{eqb}
 use lib.ListN.{length, take, drop, replicate, length-append}
@@ -20,7 +20,6 @@ use Rattle.lsh.proofs.Blocks.{backwards-append, backwards-chain}
 use Rattle.lsh.proofs.Padding.{blocks-short}
 use Rattle.lsh.proofs.Splitting.{blocks-split}
 use Rattle.runs.specs.Limits.{longestBlock}
-use Rattle.runs.proofs.Zeros.{drop-replicate}
 use Rattle.equal.specs.Equal.{equal}
 use Rattle.equal.proofs.Equal.{equal-self, equal-true}
 use Rattle.record.specs.declared.Record.{Record}
@@ -28,7 +27,6 @@ use Rattle.record.specs.declared.Split.{Split}
 use Rattle.record.specs.declared.Outcome.{Outcome}
 use Rattle.record.specs.Split.{notBegun}
 use Rattle.record.specs.Record.{heldOf, heldLength, heldBytes, sound, isBegun, withSplit, stepped, refused}
-use Rattle.record.proofs.Lists.{all-zero}
 use Rattle.record.proofs.Sound.{Sound, sounds, chain-is, chain-below}
 use Rattle.record.proofs.Begun.{OneBegun, one-begun-sound, with-sound, none-is}
 use Rattle.record.proofs.Strings.{filled-zero}
@@ -96,13 +94,9 @@ module _ (r : Record) (arrays : Arrays r) (ok : sound r ≡ true) (idle : isBegu
     pub held : drop (length h - fill) h ≡ heldBytes r
     pub first : (keep : ℕ) → keep ≤ length h → keep < B → take keep (lastBytes (withSplit r s)) ≡ take keep h
 
-  none-back : heldOf [] ≡ replicate longestBlock 0
-  unfolding heldOf
-  none-back = refl
-
   -- after a begin with the held bytes
   handed-none : (h : List ℕ) → length h ≡ fill → heldDiffers r h ≡ false → Handed h (begun r)
-  unfolding begun heldDiffers reached lastBytes withSplit heldBytes backwards
+  unfolding begun heldDiffers reached lastBytes withSplit heldBytes heldOf backwards
   handed-none h size same =
       let short : length h < B = omega (arith, size, mod-lt (r .total) some) in
       let held : drop (length h - fill) h ≡ heldBytes r = equal-true (drop (length h - fill) h) (heldBytes r) (not-false (equal (drop (length h - fill) h) (heldBytes r)) same) in
@@ -113,8 +107,8 @@ module _ (r : Record) (arrays : Arrays r) (ok : sound r ≡ true) (idle : isBegu
               mark = refl;
               upTo = zero-le;
               below = is .below;
-              zero = rw (none-back, drop-replicate B longestBlock 0) (all-zero (longestBlock - B));
-              first = rw (equal-self (r .chain), none-back) (all-zero longestBlock);
+              zero = filled-zero longestBlock [] B zero-le;
+              first = rw (equal-self (r .chain)) (filled-zero longestBlock [] 0 zero-le);
             };
         second = sym (ap (λ (bs : List (List ℕ)). backwards Z bs (r .chain)) (blocks-short Z some h short));
         size = omega (arith, size, zero-mul B);
@@ -140,7 +134,7 @@ module _ (r : Record) (arrays : Arrays r) (ok : sound r ≡ true) (idle : isBegu
               mark = refl;
               upTo = omega (arith, left);
               below = chain-below (r .w) (backwards Z (blocksOf Z b) (s .second)) (is .word) (backwards-chain Z (amounts (r .w)) (blocksOf Z b) (s .second) (second-is had));
-              zero = filled-zero longestBlock b B size;
+              zero = filled-zero longestBlock b B (le-of-eq size);
               first = rw some-back;
             };
         second =

@@ -11,9 +11,12 @@ use Rattle.record.specs.declared.Outcome.{Outcome}
 use Rattle.record.specs.Record.{heldLength, heldBytes, sound, isBegun, refused}
 use Rattle.rewind.specs.Rewind.{keepsTooMuch, woundBack}
 
--- how many bytes were handed back: the blocks, and the held bytes
+-- how many bytes were handed back of an order of this total: so many blocks, and the held bytes
+abbrev pub handedLength : ℕ → ℕ → ℕ → ℕ
+handedLength w total blocks = blocks * blockBytes (sizeOf w) + heldLength w total
+
 unfoldable pub handed : Record → ℕ
-handed r = r .split .blocks * blockBytes (sizeOf (r .w)) + heldLength (r .w) (r .total)
+handed r = handedLength (r .w) (r .total) (r .split .blocks)
 
 -- those whose first remain: the block handed back last, or the held bytes if none was
 unfoldable pub lastBytes : Record → List ℕ

@@ -5,7 +5,7 @@ use mathlib.Core.Path.{_≡_, refl, sym, ap, _∙_, subst}
 use mathlib.Core.Bool.{Bool, true, false, cond, not, _&&_, _||_, false≢true}
 use mathlib.Core.List.{List, [], _∷_, _++_}
 use Prim.Native.Nat.{ℕ, suc, _+_, _-_, _*_, _/_, _%_, _≤_, _<_, zero-le}
-use native.Mathlib.Nat.{sub-zero, one-mul, zero-div, mod-lt, div-add-mod', mul-add-div-right, mul-le-mul-right, suc-mul}
+use native.Mathlib.Nat.{sub-zero, one-mul, zero-div, mod-lt, div-add-mod', mul-add-div-right, mul-le-mul-right, suc-mul, le-of-eq}
 use native.Mathlib.Omega.{arith}
 use lib.Dec.{eqb}
 use lib.ListN.{length, take, drop, replicate, length-drop, length-replicate, take-append-drop}
@@ -22,7 +22,7 @@ use Rattle.lsh.proofs.Opening.{opening-chain}
 use Rattle.lsh.proofs.Padding.{firstBlocks-more, firstBlocks-front, length-rest, one-block}
 use Rattle.runs.specs.Limits.{longestBlock, isDigestLength}
 use Rattle.runs.proofs.Limits.{block-most}
-use Rattle.runs.proofs.Zeros.{drop-replicate, filled-length}
+use Rattle.runs.proofs.Zeros.{filled-length}
 use Rattle.runs.specs.ZeroFilled.{zeroFilled}
 use Rattle.equal.specs.Equal.{equal}
 use Rattle.equal.proofs.Equal.{equal-self}
@@ -147,14 +147,17 @@ module _ (w : ℕ) (word : isWordSize w ≡ true) (n : ℕ) (digest : isDigestLe
         let one : 1 ≤ k = omega (arith, other) in
         length-take-le B h (omega (arith, h-size, mul-le-mul-right B one, one-mul B))
 
-    -- what is after a block's bytes is zero
+    -- it is no longer than a block, so what is after a block's bytes is zero
+    last-most : length (handedLast w s k) ≤ B
+    last-most = go (eqb k 0) refl
+      where
+        go : (t : Bool) → eqb k 0 ≡ t → length (handedLast w s k) ≤ B
+        go true e = rw (none-handed e) zero-le
+        go false e = rw (some-handed e) (le-of-eq (last-length e))
+
     zero-is : allZero (drop B (heldOf (handedLast w s k))) ≡ true
     unfolding heldOf
-    zero-is = go (eqb k 0) refl
-      where
-        go : (t : Bool) → eqb k 0 ≡ t → allZero (drop B (zeroFilled longestBlock (handedLast w s k))) ≡ true
-        go true e = rw (none-handed e, drop-replicate B longestBlock 0) (all-zero (longestBlock - B))
-        go false e = rw (some-handed e) (filled-zero longestBlock (take B h) B (last-length e))
+    zero-is = filled-zero longestBlock (handedLast w s k) B last-most
 
     -- with no block handed back the second chain is the first, and no byte was handed back
     first-is : (not (eqb k 0) || equal (S .second) (R .chain) && allZero (S .back)) ≡ true

@@ -15,6 +15,7 @@ use Rattle.record.specs.Split.{notBegun}
 use Rattle.record.specs.Record.{heldOf, heldLength, withSplit, recordOf}
 use Rattle.rewind.specs.Rewind.{keepsTooMuch}
 use Rattle.split_rewind.specs.HandBack.{noBlock}
+use Rattle.split_rewind.specs.End.{handedLength}
 use Rattle.tape.specs.Sequence.{Given}
 use Rattle.tape.specs.Tape.{Tape, plain, wholeBlocks, stays, plainly, tapeCut}
 
@@ -35,7 +36,7 @@ tapeHandBack w t size = cond (noBlock (blockBytes (sizeOf w)) (length (t .bytes)
 
 -- how many bytes were handed back
 unfoldable pub tapeHanded : ℕ → Tape → ℕ
-tapeHanded w t = t .number * blockBytes (sizeOf w) + heldLength w (length (t .bytes))
+tapeHanded w t = handedLength w (length (t .bytes)) (t .number)
 
 unfoldable pub tapeEnd : ℕ → Tape → ℕ → Given Tape
 tapeEnd w t keep =
