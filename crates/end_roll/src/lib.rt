@@ -23,13 +23,8 @@ pub fn end_roll(r: Record, keep: u64, roll: &mut [u8]) -> Outcome
 fn outcome(r: Record, keep: u64, y: Way) -> Outcome
     ensures { λ o. ⌜ ((roll : List ℕ) → y ≡ wayOf (sizeOf (r .w)) roll → o ≡ endRollCall r keep roll) ⌝ }
 {
-    if !record::is_sound(r) {
-        return record::refused(3, r);
-    }
-    if !record::is_begun(r) {
-        return record::refused(17, r);
-    }
-    if !roll::is_roll_of(y, r) {
+    // The end gives 3 and 17 itself, and they come first.
+    if record::is_sound(r) & record::is_begun(r) & !roll::is_roll_of(y, r) {
         return record::refused(15, r);
     }
     split_rewind::end(r, keep)

@@ -38,13 +38,8 @@ pub fn cut_roll(w: u64, o: Outcome, roll: &mut [u8], y: Way)
 fn outcome(r: Record, keep: u64, h: &[u8], y: Way) -> Outcome
     ensures { λ o. ⌜ ((roll : List ℕ) → y ≡ wayOf (sizeOf (r .w)) roll → o ≡ rewindRollCall r keep (now (h .entry)) roll) ⌝ }
 {
-    if !record::is_sound(r) {
-        return record::refused(3, r);
-    }
-    if record::is_begun(r) {
-        return record::refused(17, r);
-    }
-    if !roll::is_roll_of(y, r) {
+    // Rewind gives 3 and 17 itself, and they come first.
+    if record::is_sound(r) & !record::is_begun(r) & !roll::is_roll_of(y, r) {
         return record::refused(15, r);
     }
     rewind::rewind(r, keep, h)

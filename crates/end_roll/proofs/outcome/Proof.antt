@@ -1,45 +1,31 @@
--- `end_roll::outcome` meets its contract, test by test. Assumes nothing.
+-- `end_roll::outcome` meets its contract. Assumes nothing.
 use mathlib.Core.Path.{_≡_, sym, _∙_}
-use mathlib.Core.Bool.{true}
+use mathlib.Core.Bool.{not, _&&_}
+use mathlib.Core.List.{List}
+use Prim.Native.Nat.{ℕ}
 use borrow.Author.Needs.{needs}
-use borrow.Author.Tests.{not-true, not-false}
+use Rattle.lsh.specs.WordSize.{sizeOf}
 use Rattle.record.specs.Record.{sound, isBegun}
-use Rattle.end_roll.specs.EndRoll.{endRollCall}
+use Rattle.checkpoints.specs.Roll.{isRollOf}
+use Rattle.roll.specs.Way.{wayOf}
+use Rattle.end_roll.proofs.Ending.{refused-roll, passed-roll}
 use Rattle.end_roll.proofs.outcome.Statement.{statement}
 use Rattle.end_roll.proofs.outcome.Tie as tie
 
-sound-is : (c : tie.Else1) → sound (c .before .before .args .r) ≡ true
-sound-is c = sym (c .before .is-sound .ensures) ∙ not-false _ (c .if1 .left)
-
-begun-is : (c : tie.Else2) → isBegun (c .before .before .before .before .args .r) ≡ true
-begun-is c = sym (c .before .is-begun .ensures) ∙ not-false _ (c .if2 .left)
+-- the three tests
+module _ (c : tie.After-is-roll-of) (roll : List ℕ) (known : c .before .before .before .args .y ≡ wayOf (sizeOf (c .before .before .before .args .r .w)) roll) where
+  tested : (sound (c .before .before .before .args .r) && isBegun (c .before .before .before .args .r) && not (isRollOf (c .before .before .before .args .r) roll))
+      ≡ (c .before .before .is-sound .result && c .before .is-begun .result && not (c .is-roll-of .result))
+  tested = sym (rw (c .before .before .is-sound .ensures, c .before .is-begun .ensures, c .is-roll-of .ensures roll known))
 
 pub outcome-spec : {M : Type 1} → statement M
-unfolding endRollCall
 outcome-spec =
     tie.close
     (tie.spec
     (λ c κs. search needs)
     (λ c κs. search needs)
-    (λ c roll known. c .refused .ensures ∙ rw (sym (c .before .before .is-sound .ensures) ∙ not-true _ (c .before .if1 .taken)))
     (λ c κs. search needs)
     (λ c κs. search needs)
-    (λ c roll known.
-    c .refused2 .ensures ∙ rw (sound-is (c .before .before .before), sym (c .before .before .is-begun .ensures) ∙ not-true _ (c .before .if2 .taken)))
+    (λ c roll known. c .refused .ensures ∙ refused-roll _ _ _ (tested (c .before .before) roll known ∙ c .before .if1 .taken))
     (λ c κs. search needs)
-    (λ c κs. search needs)
-    (λ c roll known.
-    c .refused3 .ensures
-    ∙ rw (
-      sound-is (c .before .before .before .before .before),
-      begun-is (c .before .before .before),
-      sym (c .before .before .is-roll-of .ensures roll known) ∙ not-true _ (c .before .if3 .taken),
-    ))
-    (λ c κs. search needs)
-    (λ c roll known.
-    c .end .ensures
-    ∙ rw (
-      sound-is (c .before .before .before .before .before),
-      begun-is (c .before .before .before),
-      sym (c .before .before .is-roll-of .ensures roll known) ∙ not-false _ (c .before .if3 .left),
-    )))
+    (λ c roll known. c .end .ensures ∙ passed-roll _ _ _ (tested (c .before .before) roll known ∙ c .before .if1 .left)))
