@@ -1,8 +1,9 @@
-/* An order of pictures, as a kiosk's driver keeps it: order FILE...
+/* An order of pictures, as a kiosk's driver keeps it: order [--key KEYFILE] FILE...
  *
  * Prints a receipt of each picture and of the order, each with the length in bits that it has, and how many pictures are firsts, reprints
  * and blanks. Then the shopper drops the last picture: the order's record is wound back, in steps, and the receipt and the counts of what
- * remains are printed.
+ * remains are printed. With a key, the bytes of KEYFILE, a tag follows each receipt of the order: a shop that has the key recognises its own
+ * orders by it.
  *
  * The calls are declared, with their answers, in lsh_kiosk.h. */
 #include <errno.h>
@@ -22,10 +23,18 @@
 #define DIGEST_BITS 256
 #endif
 
-/* The bytes of the order: its pictures, one after the other. A rewind wants the last of them back; a driver that does not keep them in
- * memory reads these from the pictures' files again. */
-static uint8_t *bytes;
-static size_t room;
+/* Bytes that are read from files, one file after the other. */
+struct contents {
+    uint8_t *bytes;
+    size_t length, room;
+};
+
+/* The bytes of the order: its pictures. A rewind wants the last of them back; a driver that does not keep them in memory reads these from the
+ * pictures' files again. */
+static struct contents pictures;
+
+/* The shop's key, of no bytes if none is given. */
+static struct contents key;
 
 /* The roll of the order's checkpoints, a new one at first, as all static memory is zeros. An order has a roll in all its calls or in none, so
  * one that is too long for the largest roll is kept without it. */
@@ -44,7 +53,8 @@ _Noreturn static void fail(const char *what, const char *why)
     exit(EXIT_FAILURE);
 }
 
-/* Ends the program if a call was refused. After the tests of main only a picture that makes the order too long can do that. */
+/* Ends the program if a call was refused. After the tests of main only a picture that makes the order too long can do that, and with a key
+ * DIGEST_BITS that are no whole bytes. */
 static void must_be_accepted(uint32_t number, const char *call)
 {
     if (number != LSH_ACCEPTED) {
@@ -54,23 +64,23 @@ static void must_be_accepted(uint32_t number, const char *call)
     }
 }
 
-/* Reads a file to the order's bytes from a place on, and gives the place after it. */
-static size_t read_file(const char *name, size_t place)
+/* Reads a file to the end of what was read before. */
+static void read_file(const char *name, struct contents *to)
 {
     FILE *file = fopen(name, "rb");
     if (file == NULL) {
         fail(name, strerror(errno));
     }
     for (;;) {
-        if (place == room) {
-            room = 2 * room + 65536;
-            bytes = realloc(bytes, room);
-            if (bytes == NULL) {
-                fail(name, "there is not enough memory for the order");
+        if (to->length == to->room) {
+            to->room = 2 * to->room + 65536;
+            to->bytes = realloc(to->bytes, to->room);
+            if (to->bytes == NULL) {
+                fail(name, "there is not enough memory for it");
             }
         }
-        size_t got = fread(bytes + place, 1, room - place, file);
-        place += got;
+        size_t got = fread(to->bytes + to->length, 1, to->room - to->length, file);
+        to->length += got;
         if (got == 0) {
             break;
         }
@@ -79,7 +89,15 @@ static size_t read_file(const char *name, size_t place)
         fail(name, strerror(errno));
     }
     fclose(file);
-    return place;
+}
+
+/* An empty file is most likely not the one that was meant, and with a key of no bytes everyone could make the tags. */
+static void read_key(const char *name)
+{
+    read_file(name, &key);
+    if (key.length == 0) {
+        fail(name, "the key is empty");
+    }
 }
 
 /* The length in bits of what a receipt is of: its last bytes, the low byte first. */
@@ -92,11 +110,16 @@ static uint64_t bit_length(const uint8_t *receipt)
     return bits;
 }
 
+static void print_hexadecimal(const uint8_t *bytes, size_t length)
+{
+    for (size_t i = 0; i < length; i++) {
+        printf("%02x", bytes[i]);
+    }
+}
+
 static void print_receipt(const uint8_t *receipt, const char *name)
 {
-    for (size_t i = 0; i < LSH_RECEIPT_BYTES; i++) {
-        printf("%02x", receipt[i]);
-    }
+    print_hexadecimal(receipt, LSH_RECEIPT_BYTES);
     printf(" %" PRIu64 "  %s\n", bit_length(receipt), name);
 }
 
@@ -106,11 +129,42 @@ static void write_order(lsh_record order, uint8_t *receipt)
     must_be_accepted(lsh_close(order, 0, 0, receipt, LSH_RECEIPT_BYTES), "lsh_close");
 }
 
-static void print_order(lsh_record order, const char *name)
+/* Writes the tag of the first pictures. A tag has a record of its own, which begins with the key; the pictures are appended as to an order. */
+static void write_tag(size_t count, uint8_t *tag)
+{
+    lsh_outcome outcome = lsh_tag_start(WORD_SIZE, DIGEST_BITS, key.bytes, key.length);
+    must_be_accepted(outcome.number, "lsh_tag_start");
+    for (size_t i = 0; i < count; i++) {
+        outcome = lsh_append(outcome.next, pictures.bytes + places[i], places[i + 1] - places[i]);
+        must_be_accepted(outcome.number, "lsh_append");
+    }
+    must_be_accepted(lsh_tag_finish(outcome.next, key.bytes, key.length, tag, LSH_TAG_BYTES(DIGEST_BITS)), "lsh_tag_finish");
+}
+
+/* Ends the program if a tag is not that of the first pictures. So a shop looks at an order that comes back with its tag. */
+static void must_be_tag(size_t count, const uint8_t *tag)
+{
+    lsh_sameness sameness = lsh_tag_check(WORD_SIZE, DIGEST_BITS, key.bytes, key.length, pictures.bytes, places[count], tag,
+                                          LSH_TAG_BYTES(DIGEST_BITS));
+    must_be_accepted(sameness.number, "lsh_tag_check");
+    if (!sameness.same) {
+        fail("the tag", "it is not that of the order");
+    }
+}
+
+/* The receipt of an order of the first pictures, and its tag if there is a key. */
+static void print_order(lsh_record order, size_t count, const char *name)
 {
     uint8_t receipt[LSH_RECEIPT_BYTES];
     write_order(order, receipt);
     print_receipt(receipt, name);
+    if (key.length != 0) {
+        uint8_t tag[LSH_TAG_BYTES(DIGEST_BITS)];
+        write_tag(count, tag);
+        must_be_tag(count, tag);
+        print_hexadecimal(tag, sizeof tag);
+        printf("  the tag of %s\n", name);
+    }
 }
 
 /* Ends the program if two records give different receipts. */
@@ -137,7 +191,7 @@ static void print_tally(size_t count)
 /* The order with the picture at a place added: the picture's receipt is made and printed, too. */
 static lsh_record add_picture(lsh_record order, size_t i, const char *name)
 {
-    const uint8_t *picture = bytes + places[i];
+    const uint8_t *picture = pictures.bytes + places[i];
     size_t length = places[i + 1] - places[i];
     must_be_accepted(lsh_whole(WORD_SIZE, DIGEST_BITS, picture, length, 0, 0, receipts[i], LSH_RECEIPT_BYTES), "lsh_whole");
     print_receipt(receipts[i], name);
@@ -159,13 +213,13 @@ static lsh_record cut_order(lsh_record order, size_t length)
 
     /* First the bytes since the last whole block. */
     size_t place = order.total - order.total % block;
-    lsh_outcome outcome = lsh_begin(order, bytes + place, order.total % block);
+    lsh_outcome outcome = lsh_begin(order, pictures.bytes + place, order.total % block);
     must_be_accepted(outcome.number, "lsh_begin");
 
     /* Then one whole block after the other, from the last one on. */
     while (place > from) {
         place -= block;
-        outcome = lsh_hand_back(outcome.next, bytes + place, block);
+        outcome = lsh_hand_back(outcome.next, pictures.bytes + place, block);
         must_be_accepted(outcome.number, "lsh_hand_back");
         /* Here a driver draws its screen. */
     }
@@ -181,16 +235,23 @@ static lsh_record cut_order(lsh_record order, size_t length)
 
 int main(int argc, char **argv)
 {
-    if (argc < 2) {
-        fprintf(stderr, "usage: order FILE...\n");
+    bool has_key = argc > 1 && strcmp(argv[1], "--key") == 0;
+    int first = has_key ? 3 : 1;
+    if (argc <= first) {
+        fprintf(stderr, "usage: order [--key KEYFILE] FILE...\n");
         return EXIT_FAILURE;
     }
-    size_t count = (size_t)argc - 1;
+    char **names = argv + first;
+    size_t count = (size_t)(argc - first);
     if (count > LSH_MOST_RECEIPTS) {
         fail("the pictures", "too many for one tally");
     }
+    if (has_key) {
+        read_key(argv[2]);
+    }
     for (size_t i = 0; i < count; i++) {
-        places[i + 1] = read_file(argv[i + 1], places[i]);
+        read_file(names[i], &pictures);
+        places[i + 1] = pictures.length;
     }
 
     has_roll = places[count] / LSH_BLOCK_BYTES(WORD_SIZE) / LSH_CHECKPOINT_BLOCKS <= LSH_MOST_SLOTS;
@@ -198,13 +259,13 @@ int main(int argc, char **argv)
     must_be_accepted(opened.number, "lsh_open");
     lsh_record order = opened.next;
     for (size_t i = 0; i < count; i++) {
-        order = add_picture(order, i, argv[i + 1]);
+        order = add_picture(order, i, names[i]);
     }
-    print_order(order, "the order");
+    print_order(order, count, "the order");
     print_tally(count);
 
     order = cut_order(order, places[count - 1]);
-    print_order(order, "the order without its last picture");
+    print_order(order, count - 1, "the order without its last picture");
     print_tally(count - 1);
 
     if (fflush(stdout) != 0) {

@@ -29,7 +29,7 @@ extern "C" {
 #define LSH_BAD_DIGEST_LENGTH 2u /* n is 0 or above 8w */
 #define LSH_UNSOUND_RECORD 3u    /* the record is not sound: see lsh_record */
 #define LSH_BAD_LENGTH 4u        /* a chain that is not 2w bytes or a block that is not 4w bytes */
-#define LSH_TOO_LONG 5u          /* a message or an order of more than LSH_MOST_BYTES bytes */
+#define LSH_TOO_LONG 5u          /* a message, an order or a key of more than LSH_MOST_BYTES bytes, or a key's block and a message together */
 #define LSH_BAD_START 6u         /* bytes handed back that are longer than the order, or do not begin where a block begins; in a split rewind,
                                   * not as many as the step takes, or no whole block is left to hand back */
 #define LSH_BAD_KEEP 7u          /* more bytes to keep than were handed back, or a block or more */
@@ -37,12 +37,13 @@ extern "C" {
 #define LSH_OPENING_DIFFERS 9u   /* all of the order was handed back, and it does not lead back to the opening chain */
 #define LSH_BAD_EXTRA_BITS 10u   /* e is above 7 */
 #define LSH_BAD_LAST_BYTE 11u    /* one of the low 8 - e bits of the last byte is set */
-#define LSH_SHORT_OUTPUT 12u     /* an output of less than LSH_RECEIPT_BYTES bytes */
+#define LSH_SHORT_OUTPUT 12u     /* an output of less than LSH_RECEIPT_BYTES bytes; for a tag, of less than LSH_TAG_BYTES(n) */
 #define LSH_NO_RECEIPTS 13u      /* not as many bytes as one receipt, or as a list of at most LSH_MOST_RECEIPTS receipts, has */
 #define LSH_MALFORMED 14u        /* a receipt that has not the form of one: see lsh_whole */
 #define LSH_BAD_ROLL 15u         /* a buffer that is no roll, or not the roll of such a record: see "an order with a roll" */
 #define LSH_FULL_ROLL 16u        /* the linked slots of the roll and the checkpoints due are together more than its slots */
 #define LSH_OUT_OF_TURN 17u      /* an Append, a Rewind or a begin while a split rewind is unfinished, or another step of one with none begun */
+#define LSH_NO_WHOLE_BYTES 18u   /* n is no multiple of 8, so a digest is not the whole bytes that a tag takes */
 
 /* ---- figures ---- */
 
@@ -57,6 +58,9 @@ extern "C" {
 /* Bytes of a receipt, and the most receipts of a list. */
 #define LSH_RECEIPT_BYTES 76
 #define LSH_MOST_RECEIPTS 960
+
+/* Bytes of a tag, by digest length. */
+#define LSH_TAG_BYTES(n) ((n) / 8)
 
 /* Where the digest stands in a receipt, and where the length of the message in bits, which takes the last eight bytes. */
 #define LSH_DIGEST_PLACE 4
@@ -105,7 +109,8 @@ typedef struct lsh_outcome {
     lsh_record next;
 } lsh_outcome;
 
-/* The answer to lsh_same: its number, and whether the receipts are the same (false if it is refused). */
+/* The answer to lsh_same and to lsh_tag_check: its number, and whether the receipts are the same, or the tag that was given and the right one
+ * (false if it is refused). */
 typedef struct lsh_sameness {
     uint32_t number;
     bool same;
@@ -254,6 +259,41 @@ lsh_outcome lsh_end_roll(lsh_record r, uint64_t keep, uint8_t *roll, size_t roll
  * LSH_TOO_LONG, LSH_BAD_EXTRA_BITS, LSH_BAD_LAST_BYTE or LSH_SHORT_OUTPUT, tested in that order, and changes nothing. */
 uint32_t lsh_whole(uint64_t w, uint64_t n, const uint8_t *message, size_t message_len, uint8_t last, uint64_t e, uint8_t *output,
                    size_t output_len);
+
+/* ---- tags with a key ---- */
+
+/* A tag is made of a message and a key, and shows those who have the key that the message was tagged with it. It is HMAC of RFC 2104 over
+ * LSH-256-n or LSH-512-n, and has LSH_TAG_BYTES(n) bytes, n / 8; w and n are as for lsh_open, but n is a multiple of 8. A key has any length
+ * up to LSH_MOST_BYTES, and may be empty. It goes before the message as a block of 4w bytes (a longer one is replaced by its digest, and
+ * zeros follow up to the block's end), so a message has at most LSH_MOST_BYTES less 4w bytes. The output overlaps no other buffer.
+ * Nothing is promised about time: how long a call takes may depend on the key, the message and the tag. */
+
+/* Writes the tag of one message.
+ * Answers 0 and writes the first LSH_TAG_BYTES(n) bytes of the output, and no other; or answers LSH_BAD_WORD_SIZE, LSH_BAD_DIGEST_LENGTH,
+ * LSH_NO_WHOLE_BYTES, LSH_TOO_LONG or LSH_SHORT_OUTPUT, tested in that order, and changes nothing. */
+uint32_t lsh_tag(uint64_t w, uint64_t n, const uint8_t *key, size_t key_len, const uint8_t *message, size_t message_len, uint8_t *output,
+                 size_t output_len);
+
+/* Begins the tag of a message that comes in pieces: lsh_append adds each of them, and lsh_tag_finish writes the tag. With the same key at the
+ * start and at the finish it is the tag of the joined pieces that were accepted. The record is that of an order which begins with the key's
+ * block, so its total, which lsh_append holds to LSH_MOST_BYTES, is 4w at first.
+ * Answers 0 with this record and a count of 1, for the key's block (those that are run for the digest of a long key are not counted); or
+ * answers LSH_BAD_WORD_SIZE, LSH_BAD_DIGEST_LENGTH, LSH_NO_WHOLE_BYTES or LSH_TOO_LONG, tested in that order, with a record of zeros, which
+ * every other call refuses, and a count of 0. */
+lsh_outcome lsh_tag_start(uint64_t w, uint64_t n, const uint8_t *key, size_t key_len);
+
+/* Writes the tag of the pieces appended since lsh_tag_start. The key is that of the start, which the record does not tell. The record is not
+ * changed: more can be appended, and the tag written again. Every sound record is taken, also one from lsh_open and one with a split rewind
+ * begun: the digest that lsh_close gives for it where last and e are 0 stands as the inner digest of HMAC.
+ * Answers 0 and writes the first LSH_TAG_BYTES(r.n) bytes of the output, and no other; or answers LSH_UNSOUND_RECORD, LSH_NO_WHOLE_BYTES,
+ * LSH_TOO_LONG (the key alone) or LSH_SHORT_OUTPUT, tested in that order, and changes nothing. */
+uint32_t lsh_tag_finish(lsh_record r, const uint8_t *key, size_t key_len, uint8_t *output, size_t output_len);
+
+/* Tells whether a tag is the one that lsh_tag writes: all of its LSH_TAG_BYTES(n) bytes agree. Each of them is compared, whatever the others
+ * are. A tag of another length is not refused: it gets a no.
+ * Answers 0 and yes or no; or answers LSH_BAD_WORD_SIZE, LSH_BAD_DIGEST_LENGTH, LSH_NO_WHOLE_BYTES or LSH_TOO_LONG, tested in that order. */
+lsh_sameness lsh_tag_check(uint64_t w, uint64_t n, const uint8_t *key, size_t key_len, const uint8_t *message, size_t message_len,
+                           const uint8_t *tag, size_t tag_len);
 
 /* ---- receipts ---- */
 

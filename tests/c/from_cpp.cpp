@@ -1,5 +1,5 @@
-// Includes the header and makes each call from C++: an order of two pieces, the second of which is dropped again, at once and in steps, and one
-// with a roll.
+// Includes the header and makes each call from C++: an order of two pieces, the second of which is dropped again, at once and in steps, one with a
+// roll, and a tag.
 #include "lsh_kiosk.h"
 
 #include <cstdio>
@@ -51,6 +51,20 @@ int main()
     good = good && roll[0] == 1 && handed.number == LSH_ACCEPTED && handed.count == 0 && handed.next.blocks == 1;
     const lsh_outcome shorter = lsh_end_roll(handed.next, 0, roll, sizeof roll);
     good = good && shorter.number == LSH_ACCEPTED && shorter.count == 1 && shorter.next.total == sizeof piece - sizeof block && roll[0] == 0;
+
+    // The tag of both pieces with a key, as one message and one after the other; a shorter key gets a no.
+    const uint8_t key[2] = {1, 2};
+    uint8_t tag[LSH_TAG_BYTES(256)], finished[sizeof tag];
+    const lsh_outcome started = lsh_tag_start(32, 256, key, sizeof key);
+    const lsh_outcome added = lsh_append(lsh_append(started.next, bytes, 1).next, bytes + 1, 2);
+    good = good && started.number == LSH_ACCEPTED && started.count == 1 && added.number == LSH_ACCEPTED
+        && lsh_tag(32, 256, key, sizeof key, bytes, sizeof bytes, tag, sizeof tag) == LSH_ACCEPTED
+        && lsh_tag_finish(added.next, key, sizeof key, finished, sizeof finished) == LSH_ACCEPTED
+        && std::memcmp(finished, tag, sizeof tag) == 0;
+    const lsh_sameness right = lsh_tag_check(32, 256, key, sizeof key, bytes, sizeof bytes, tag, sizeof tag);
+    const lsh_sameness wrong = lsh_tag_check(32, 256, key, 1, bytes, sizeof bytes, tag, sizeof tag);
+    good = good && right.number == LSH_ACCEPTED && right.same && wrong.number == LSH_ACCEPTED && !wrong.same
+        && lsh_tag_start(32, 255, key, sizeof key).number == LSH_NO_WHOLE_BYTES;
 
     std::puts(good ? "from_cpp: all calls passed" : "from_cpp: FAILED");
     return good ? 0 : 1;

@@ -1,11 +1,12 @@
-//! Times block runs, Append without a roll and with one, Rewind at one go and in steps, whole messages and Tally by the
-//! module, lsh_ref and Crypto++. `bench/run` builds and starts it.
+//! Times block runs, Append without a roll and with one, Rewind at one go and in steps, whole messages, tags and Tally by
+//! the module, lsh_ref and Crypto++. `bench/run` builds and starts it.
 
 mod bars;
 mod blocks;
 mod messages;
 mod peers;
 mod table;
+mod tags;
 mod till;
 mod timing;
 
@@ -35,24 +36,27 @@ fn main() {
 fn check_peers<W: Word>(input: &[u8]) {
     blocks::check_peers::<W>(input);
     messages::check_peers::<W>(input);
+    tags::check_peers::<W>(input);
 }
 
 fn timings_of<W: Word>(input: &[u8]) -> Vec<Timing<'_>> {
     let mut timings = blocks::timings::<W>(input);
     timings.extend(messages::timings::<W>(input));
+    timings.extend(tags::timings::<W>(input));
     timings
 }
 
 fn print_report(rates: &Rates) {
     println!(
-        "Best of {ROUNDS} rounds, in MB/s (10^6 bytes). Before the timing, all peers computed the same chains and"
+        "Best of {ROUNDS} rounds, in MB/s (10^6 bytes). Before the timing, all peers computed the same chains,"
     );
-    println!("digests and all buffers were touched.");
+    println!("digests and tags and all buffers were touched.");
     table::print("Whole blocks over 1 MiB", &blocks::COLUMNS, rates);
     let title =
         format!("Append of 1 MiB to a new record, also with a new roll of {MOST_SLOTS} slots, and Rewind of 1 MiB, also in steps");
     table::print(&title, &blocks::RECORD_COLUMNS, rates);
     table::print("Whole messages, LSH-256-256 and LSH-512-512", &messages::COLUMNS, rates);
+    table::print("Tags (HMAC), with a key as long as the tag, LSH-256-256 and LSH-512-512", &tags::COLUMNS, rates);
     till::print();
     bars::print(rates);
 }

@@ -30,22 +30,40 @@ pub const COLUMNS: [Column; 9] = [
 
 /// Every peer gives the digest of lsh_ref for each length.
 pub fn check_peers<W: Word>(input: &[u8]) {
-    for (work, length) in LENGTHS {
+    let right = |message: &[u8]| lsh_ref::hash_stream::<W>(digest_bits::<W>(), message);
+    check_lengths::<W>(input, &LENGTHS, hash_peers::<W>(), right);
+}
+
+pub fn timings<W: Word>(input: &[u8]) -> Vec<Timing<'_>> {
+    length_timings::<W>(input, &LENGTHS, hash_peers::<W>())
+}
+
+/// The names of kinds of work, and the length of the messages of each.
+type Lengths = [(&'static str, usize)];
+
+/// Every peer gives what is right for a message of each length.
+pub fn check_lengths<W: Word>(
+    input: &[u8],
+    lengths: &Lengths,
+    peers: Vec<HashPeer>,
+    right: impl Fn(&[u8]) -> Vec<u8>,
+) {
+    for &(work, length) in lengths {
         let message = &input[..length];
-        let digest = lsh_ref::hash_stream::<W>(digest_bits::<W>(), message);
-        for HashPeer { name, hash } in hash_peers::<W>() {
+        let right = right(message);
+        for HashPeer { name, hash } in &peers {
             let mut receipt = [0; RECEIPT_BYTES];
             hash(message, &mut receipt);
-            assert_eq!(digest_part::<W>(&mut receipt), digest, "{name}, whole message of {work}, w = {}", W::BITS);
+            assert_eq!(digest_part::<W>(&mut receipt), right, "{name}, {work}, w = {}", W::BITS);
         }
     }
 }
 
-pub fn timings<W: Word>(input: &[u8]) -> Vec<Timing<'_>> {
+pub fn length_timings<'a, W: Word>(input: &'a [u8], lengths: &Lengths, peers: Vec<HashPeer>) -> Vec<Timing<'a>> {
     let mut timings = Vec::new();
-    for (work, length) in LENGTHS {
+    for &(work, length) in lengths {
         let input = &input[..length.max(LEAST_INPUT_BYTES)];
-        for HashPeer { name: peer, hash } in hash_peers::<W>() {
+        for &HashPeer { name: peer, hash } in &peers {
             timings.push(hash_timing::<W>(Task { peer, work }, input, length, hash));
         }
     }

@@ -2,7 +2,7 @@
 
 use compare::roll::{roll_bytes, MOST_SLOTS};
 use compare::{
-    append, append_roll, begin, block_backward, block_forward, end, hand_back, open, rewind, tally, whole, Record,
+    append, append_roll, begin, block_backward, block_forward, end, hand_back, open, rewind, tag, tally, whole, Record,
     ACCEPTED, DIGEST_PLACE, RECEIPT_BYTES,
 };
 use lsh_ref::Word;
@@ -137,8 +137,8 @@ pub fn module_tally(receipts: &[u8]) -> (u64, u64) {
     (counts.firsts, counts.blanks)
 }
 
-/// Writes the digest of a whole message where a receipt has it. A buffer is lent because the module and Crypto++ need
-/// no other, and making one would count at short messages.
+/// Writes the digest of a whole message where a receipt has it, or its tag there. A buffer is lent because the module and
+/// Crypto++ need no other, and making one would count at short messages.
 pub type Hash = fn(message: &[u8], receipt: &mut [u8; RECEIPT_BYTES]);
 
 pub struct HashPeer {
@@ -152,6 +152,13 @@ pub fn hash_peers<W: Word>() -> Vec<HashPeer> {
         HashPeer { name: REFERENCE, hash: reference_hash::<W> },
     ];
     peers.extend(cryptopp::<W>().map(|hash| HashPeer { name: CRYPTOPP, hash }));
+    peers
+}
+
+/// lsh_ref has no tags.
+pub fn tag_peers<W: Word>() -> Vec<HashPeer> {
+    let mut peers = vec![HashPeer { name: MODULE, hash: module_tag::<W> }];
+    peers.extend(cryptopp_tag::<W>().map(|hash| HashPeer { name: CRYPTOPP, hash }));
     peers
 }
 
@@ -173,8 +180,22 @@ fn reference_hash<W: Word>(message: &[u8], receipt: &mut [u8; RECEIPT_BYTES]) {
     digest_part::<W>(receipt).copy_from_slice(&lsh_ref::hash_stream::<W>(digest_bits::<W>(), message));
 }
 
+/// The key of the tags, as long as they are.
+pub fn key<W: Word>() -> &'static [u8] {
+    &[0xa7; 64][..W::BITS]
+}
+
+fn module_tag<W: Word>(message: &[u8], receipt: &mut [u8; RECEIPT_BYTES]) {
+    assert_eq!(tag(W::BITS as u64, digest_bits::<W>(), key::<W>(), message, digest_part::<W>(receipt)), ACCEPTED);
+}
+
 #[cfg(not(feature = "cryptopp"))]
 pub fn cryptopp<W: Word>() -> Option<Hash> {
+    None
+}
+
+#[cfg(not(feature = "cryptopp"))]
+fn cryptopp_tag<W: Word>() -> Option<Hash> {
     None
 }
 
@@ -188,5 +209,20 @@ pub fn cryptopp<W: Word>() -> Option<Hash> {
         let hash = if W::BITS == 32 { cryptopp_lsh256 } else { cryptopp_lsh512 };
         // SAFETY: the message comes with its length, and the digest has the 32 or 64 bytes that are written.
         unsafe { hash(message.as_ptr(), message.len(), digest_part::<W>(receipt).as_mut_ptr()) };
+    })
+}
+
+#[cfg(feature = "cryptopp")]
+fn cryptopp_tag<W: Word>() -> Option<Hash> {
+    type Tag = unsafe extern "C" fn(key: *const u8, key_len: usize, message: *const u8, length: usize, tag: *mut u8);
+    extern "C" {
+        fn cryptopp_hmac256(key: *const u8, key_len: usize, message: *const u8, length: usize, tag: *mut u8);
+        fn cryptopp_hmac512(key: *const u8, key_len: usize, message: *const u8, length: usize, tag: *mut u8);
+    }
+    Some(|message, receipt| {
+        let tag: Tag = if W::BITS == 32 { cryptopp_hmac256 } else { cryptopp_hmac512 };
+        let (key, room) = (key::<W>(), digest_part::<W>(receipt));
+        // SAFETY: the key and the message come with their lengths, and there is room for the 32 or 64 bytes of the tag.
+        unsafe { tag(key.as_ptr(), key.len(), message.as_ptr(), message.len(), room.as_mut_ptr()) };
     })
 }

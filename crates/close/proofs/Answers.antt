@@ -3,7 +3,7 @@
 use mathlib.Core.Path.{_≡_, refl, sym, ap, _∙_}
 use mathlib.Core.Bool.{Bool, true, false, not, cond}
 use mathlib.Core.List.{List, _∷_, _++_}
-use Prim.Native.Nat.{ℕ, _+_, _-_, _*_, _%_, _^_, _<_}
+use Prim.Native.Nat.{ℕ, _+_, _-_, _*_, _%_, _^_, _≤_, _<_}
 use native.Mathlib.Nat.{mod-eq-of-lt}
 use native.Mathlib.Omega.{arith}
 use borrow.Author.Tests.{eq-eqb, ne-eqb}
@@ -40,6 +40,22 @@ accepted r last e size is =
     go true a is = (refl, is)
     go false a is = absurd (omega arith)
 
+-- the digest of the chain that is reached over the bytes held and the padding
+pub closed-is : (r : Record) (last e : ℕ) → length (r .held) ≡ longestBlock → Bytes (r .held) → last < 256 → e ≤ 7 → last % 2 ^ (8 - e) ≡ 0
+    → {p : ℕ} {t : List ℕ} → p ≡ last + 2 ^ (7 - e)
+    → t ≡ forwards (sizeOf (r .w)) (blocksOf (sizeOf (r .w)) (heldBytes r ++ p ∷ replicate (blockBytes (sizeOf (r .w)) - 1 - length (heldBytes r)) 0)) (r .chain)
+    → digest (sizeOf (r .w)) (r .n) t ≡ closedDigest r last e
+unfolding closedDigest messageBits
+closed-is r last e long bytes byte few low {p} {t} pad run =
+    let z : WordSize = sizeOf (r .w) in
+    let s : List ℕ = heldBytes r in
+    let left : length s % blockBytes z ≡ length s = mod-eq-of-lt (held-short r long) in
+    let block : s ++ p ∷ replicate (blockBytes z - 1 - length s) 0 ≡ bytesOfBits (padded z (messageBits s last e)) =
+    ap (λ (b : ℕ). s ++ b ∷ replicate (blockBytes z - 1 - length s) 0) pad
+    ∙ ap (λ (l : ℕ). s ++ (last + 2 ^ (7 - e)) ∷ replicate (blockBytes z - 1 - l) 0) (sym left)
+    ∙ sym (padded-bytes z s last e (block-some (r .w)) (held-bytes r bytes) byte few low) in
+    ap (digest z (r .n)) (run ∙ ap (λ (b : List ℕ). forwards z (blocksOf z b) (r .chain)) block)
+
 module _ (r : Record) (last e : ℕ) (output : List ℕ) where
   abbrev answer : ℕ
   answer = closeAnswer r last e (length output)
@@ -55,18 +71,12 @@ module _ (r : Record) (last e : ℕ) (output : List ℕ) where
       → t ≡ forwards Z (blocksOf Z (heldBytes r ++ p ∷ replicate (blockBytes Z - 1 - length (heldBytes r)) 0)) (r .chain)
       → d ≡ receipt (r .w) (r .n) (digest Z (r .n) t) (8 * r .total + e) ++ drop receiptBytes output
       → (0 ≡ answer) × (d ≡ closeOutput r last e output)
-  unfolding closeOutput closedDigest messageBits
+  unfolding closeOutput
   accepted-output {p} {t} {d} is long bytes byte pad run stored =
-      let a : Accepted r last e (length output) = accepted r last e (length output) is in
-      let s : List ℕ = heldBytes r in
-      let left : length s % blockBytes Z ≡ length s = mod-eq-of-lt (held-short r long) in
-      let block : s ++ p ∷ replicate (blockBytes Z - 1 - length s) 0 ≡ bytesOfBits (padded Z (messageBits s last e)) =
-      ap (λ (b : ℕ). s ++ b ∷ replicate (blockBytes Z - 1 - length s) 0) pad
-      ∙ ap (λ (l : ℕ). s ++ (last + 2 ^ (7 - e)) ∷ replicate (blockBytes Z - 1 - l) 0) (sym left)
-      ∙ sym (padded-bytes Z s last e (block-some (r .w)) (held-bytes r bytes) byte (a .end .extra) (a .end .low)) in (
+      let a : Accepted r last e (length output) = accepted r last e (length output) is in (
         sym is,
         stored
-            ∙ ap (λ (c : List ℕ). receipt (r .w) (r .n) (digest Z (r .n) c) (8 * r .total + e) ++ drop receiptBytes output)
-            (run ∙ ap (λ (b : List ℕ). forwards Z (blocksOf Z b) (r .chain)) block)
+            ∙ ap (λ (b : List Bool). receipt (r .w) (r .n) b (8 * r .total + e) ++ drop receiptBytes output)
+            (closed-is r last e long bytes byte (a .end .extra) (a .end .low) pad run)
             ∙ sym (rw (eq-eqb answer 0 is)),
       )

@@ -2,13 +2,15 @@
 ghost use mathlib.Core.Path.{_≡_};
 ghost use mathlib.Core.Bool.{true};
 ghost use mathlib.Core.List.{_∷_, _++_};
-ghost use Prim.Native.Nat.{_-_};
-ghost use lib.ListN.{length, replicate};
+ghost use Prim.Native.Nat.{_+_, _-_, _/_};
+ghost use lib.ListN.{length, take, replicate};
 ghost use Rattle.lsh.specs.WordSize.{sizeOf, blockBytes};
 ghost use Rattle.lsh.specs.Block.{forwards};
+ghost use Rattle.lsh.specs.Bits.{bytesOfBits};
 ghost use Rattle.lsh.specs.Padding.{blocksOf};
 ghost use Rattle.record.specs.Record.{sound, heldBytes};
-ghost use Rattle.close.specs.Close.{closeAnswer, closeOutput};
+ghost use Rattle.close.specs.Close.{closeAnswer, closedDigest, closeOutput};
+use runs::LONGEST_BLOCK;
 
 // Writes the receipt of the record's bytes and the top e bits of the last byte, if the answer is 0. The record is not changed, so
 // more can be appended to it.
@@ -25,6 +27,17 @@ pub fn close(r: record::Record, last: u8, e: u64, output: &mut [u8]) -> u32
     let t = final_chain(r, finalization::pad_byte(last, e as u32));
     finalization::write_receipt(w, n, t, bits, output);
     0
+}
+
+// The bytes of the digest that the record gives without extra bits, and others after them.
+pub fn digest_bytes(r: record::Record) -> [u8; LONGEST_BLOCK]
+    requires { ⌜ sound r ≡ true ⌝ }
+    ensures { λ d. ⌜ take ((r .n + 7) / 8) d ≡ bytesOfBits (closedDigest r 0 0) ⌝ }
+{
+    let w = r.w;
+    let n = r.n;
+    let t = final_chain(r, finalization::PAD);
+    finalization::digest_bytes(w, n, t)
 }
 
 // The answer to a call. Nothing is hashed before it is known.

@@ -42,7 +42,7 @@ module _ (w n : ℕ) (t : List ℕ) (size : isWordSize w ≡ true) (le : n ≤ l
       let len : length h ≡ w = length-final (sizeOf w) (octets w) t ∙ bits-are w size in
       digest-bytes h n (final-bytes (sizeOf w) (octets w) t) (rw len le)
 
-  length-bytes : length bytes ≡ (n + 7) / 8
+  pub length-bytes : length bytes ≡ (n + 7) / 8
   length-bytes = ap length bytes-are ∙ length-tabulate ((n + 7) / 8) byteOf
 
   at-bytes : (i : ℕ) → i < (n + 7) / 8 → at bytes i ≡ byteOf i

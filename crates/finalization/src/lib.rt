@@ -28,6 +28,9 @@ pub const LENGTH: usize = 68;
 // The most bits of a message.
 pub const MOST_BITS: u64 = 8 * runs::LIMIT as u64 + 7;
 
+// What padding puts after whole bytes: the bit 1, and zeros to the end of its byte.
+pub const PAD: u8 = 0x80;
+
 // The answer by the end of a message and the size of the output.
 pub fn end_answer(last: u8, e: u64, size: usize) -> u32
     ensures { λ r. ⌜ r ≡ endAnswer last e size ⌝ }
@@ -58,6 +61,17 @@ pub fn pad_byte(last: u8, e: u32) -> u8
     ensures { λ r. ⌜ r ≡ last + 2 ^ (7 - e) ⌝ }
 {
     last + (128u8 >> e)
+}
+
+// The chain after the blocks of a message that is padded from the byte pad on.
+pub fn message_chain(w: u64, t: [u64; 16], message: &[u8], pad: u8) -> [u64; 16]
+    requires { ⌜ (isWordSize w ≡ true) × Chain (sizeOf w) t ⌝ }
+    ensures { λ r. ⌜ r ≡ forwards (sizeOf w) (blocksOf (sizeOf w) (now (message .entry) ++ pad ∷ replicate (blockBytes (sizeOf w) - 1 - length (now (message .entry)) % blockBytes (sizeOf w)) 0)) t ⌝ }
+{
+    let run = runs::forward(w, t, message);
+    let c = run.chain;
+    let whole = run.count * runs::block_bytes(w);
+    last_chain(w, c, &message[whole..], pad)
 }
 
 // The chain after the last block, of the bytes that are left over and the padding.
@@ -101,7 +115,7 @@ pub fn write_receipt(w: u64, n: u64, t: [u64; 16], bits: u64, output: &mut [u8])
 }
 
 // The bytes of the digest, and others after them. Byte n / 8 keeps its first n % 8 bits; where it keeps none, it is behind the digest.
-fn digest_bytes(w: u64, n: u64, t: [u64; 16]) -> [u8; LONGEST_BLOCK]
+pub fn digest_bytes(w: u64, n: u64, t: [u64; 16]) -> [u8; LONGEST_BLOCK]
     requires { ⌜ (isWordSize w ≡ true) × (n ≤ longestDigest w) × Chain (sizeOf w) t ⌝ }
     ensures { λ r. ⌜ take ((n + 7) / 8) r ≡ bytesOfBits (digest (sizeOf w) n t) ⌝ }
 {

@@ -4,6 +4,7 @@ pub mod Word
 pub mod WordSize
 pub mod StepConstants
 pub mod Bytes
+pub mod ByteString
 pub mod Lane
 pub mod Step
 pub mod Expansion

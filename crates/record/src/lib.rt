@@ -93,7 +93,8 @@ pub fn stepped(mut r: Record, s: Split) -> Outcome
     }
 }
 
-fn no_record() -> Record
+// The record of zeros.
+pub fn no_record() -> Record
     ensures { λ r. ⌜ r ≡ zeros ⌝ }
 {
     let s = not_begun();

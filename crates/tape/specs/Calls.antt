@@ -7,7 +7,7 @@ use Prim.Native.Nat.{ℕ, _+_, _-_, _<_}
 use lib.ListN.{length, drop}
 use Rattle.lsh.specs.WordSize.{sizeOf}
 use Rattle.lsh.specs.Padding.{restOf}
-use Rattle.lsh.specs.Tabulate.{at}
+use Rattle.lsh.specs.ByteString.{ByteString}
 use Rattle.record.specs.declared.Record.{Record}
 use Rattle.record.specs.declared.Outcome.{Outcome}
 use Rattle.append.specs.Append.{appendCall}
@@ -22,11 +22,6 @@ use Rattle.end_roll.specs.EndRoll.{endRollCall, endedRoll}
 use Rattle.tape.specs.Sequence.{Answer, Given}
 use Rattle.tape.specs.Tape.{Lent, byLent, Tape, wholeBlocks, stays, plainly, tapeAppend, tapeRewind}
 use Rattle.tape.specs.TapeSteps.{tapeBegin, tapeHandBack, tapeEnd, tapeAbandon, blockAfter}
-
--- a byte string
-pub record ByteString : Type 0 where
-  pub list : List ℕ
-  pub bytes : (i : ℕ) → at list i < 256
 
 -- a call with its arguments: the piece; keep, and the bytes handed back; and of a split rewind the held bytes, a block, and keep
 pub data Call : Type 0 where

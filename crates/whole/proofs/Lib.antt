@@ -1,2 +1,1 @@
-pub mod FinalChain
 pub mod Answers

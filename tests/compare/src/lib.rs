@@ -19,6 +19,7 @@ pub const MALFORMED: u32 = 14;
 pub const BAD_ROLL: u32 = 15;
 pub const FULL_ROLL: u32 = 16;
 pub const OUT_OF_TURN: u32 = 17;
+pub const BAD_TAG_LENGTH: u32 = 18;
 
 /// The most bytes of a message or of an order, and the most bits of a message.
 pub const MOST_BYTES: u64 = 1 << 40;
@@ -98,7 +99,7 @@ const _: () = assert!(offset_of!(Record, mark) == 408 && offset_of!(Record, seco
 const _: () = assert!(offset_of!(Record, back) == 544 && offset_of!(Record, blocks) == 800);
 const _: () = assert!(size_of::<Record>() == 808 && size_of::<Outcome>() == 824);
 
-/// The answer to Same.
+/// The answer to Same, and to the check of a tag.
 #[repr(C)]
 #[derive(Clone, Copy, PartialEq, Eq, Debug)]
 pub struct Sameness {
@@ -159,6 +160,28 @@ mod c {
         ) -> u32;
         pub fn lsh_same(a: *const u8, a_len: usize, b: *const u8, b_len: usize) -> Sameness;
         pub fn lsh_tally(list: *const u8, list_len: usize) -> Counts;
+        pub fn lsh_tag(
+            w: u64,
+            n: u64,
+            key: *const u8,
+            key_len: usize,
+            message: *const u8,
+            message_len: usize,
+            output: *mut u8,
+            output_len: usize,
+        ) -> u32;
+        pub fn lsh_tag_start(w: u64, n: u64, key: *const u8, key_len: usize) -> Outcome;
+        pub fn lsh_tag_finish(r: Record, key: *const u8, key_len: usize, output: *mut u8, output_len: usize) -> u32;
+        pub fn lsh_tag_check(
+            w: u64,
+            n: u64,
+            key: *const u8,
+            key_len: usize,
+            message: *const u8,
+            message_len: usize,
+            tag: *const u8,
+            tag_len: usize,
+        ) -> Sameness;
     }
 }
 
@@ -268,6 +291,32 @@ pub fn same(a: &[u8], b: &[u8]) -> Sameness {
 pub fn tally(list: &[u8]) -> Counts {
     // SAFETY: as in `block_forward`.
     unsafe { c::lsh_tally(list.as_ptr(), list.len()) }
+}
+
+/// Writes the tag of a message.
+pub fn tag(w: u64, n: u64, key: &[u8], message: &[u8], output: &mut [u8]) -> u32 {
+    let (key, key_len) = (key.as_ptr(), key.len());
+    // SAFETY: as in `block_forward`.
+    unsafe { c::lsh_tag(w, n, key, key_len, message.as_ptr(), message.len(), output.as_mut_ptr(), output.len()) }
+}
+
+/// Begins a tag over pieces: the record to append them to.
+pub fn tag_start(w: u64, n: u64, key: &[u8]) -> Outcome {
+    // SAFETY: as in `block_forward`.
+    unsafe { c::lsh_tag_start(w, n, key.as_ptr(), key.len()) }
+}
+
+/// Writes the tag of the pieces that were appended.
+pub fn tag_finish(r: Record, key: &[u8], output: &mut [u8]) -> u32 {
+    // SAFETY: as in `append`.
+    unsafe { c::lsh_tag_finish(r, key.as_ptr(), key.len(), output.as_mut_ptr(), output.len()) }
+}
+
+/// Tells whether a tag is that of a message.
+pub fn tag_check(w: u64, n: u64, key: &[u8], message: &[u8], tag: &[u8]) -> Sameness {
+    let (key, key_len) = (key.as_ptr(), key.len());
+    // SAFETY: as in `block_forward`.
+    unsafe { c::lsh_tag_check(w, n, key, key_len, message.as_ptr(), message.len(), tag.as_ptr(), tag.len()) }
 }
 
 /// A test at each word size.

@@ -36,6 +36,12 @@ impl Script {
         self.answers.push(answer.into());
     }
 
+    /// A line that is no call.
+    pub fn no_call(&mut self, line: impl AsRef<str>) {
+        let answer = format!("line {}: not a call", self.answers.len() + 1);
+        self.call(line, answer);
+    }
+
     /// Runs the program on the script, and compares what it prints.
     pub fn compare(self, what: &str) {
         let printed = replay(self.lines);

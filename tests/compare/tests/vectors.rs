@@ -1,12 +1,11 @@
-//! The receipts of lsh_whole against the vectors of Crypto++ in the folder tests/vectors (its README.md says what they
-//! are).
+//! The receipts of lsh_whole against the vectors of Crypto++.
 
 mod receipts;
+mod vector_file;
 
 use compare::Random;
 use receipts::{assert_receipt, Arguments};
-use std::fs;
-use std::path::Path;
+use vector_file::hexadecimal;
 
 const FILES: [&str; 3] = ["lsh256.txt", "lsh512.txt", "lsh512_256.txt"];
 const VECTORS: usize = 735;
@@ -28,18 +27,6 @@ fn variant(name: &str) -> (u64, u64) {
         "LSH-512-256" => (64, 256),
         _ => panic!("a variant {name:?}"),
     }
-}
-
-/// The bytes of hexadecimal digits, which may be grouped by spaces.
-fn hexadecimal(text: &str) -> Vec<u8> {
-    let digits: Vec<u8> = text
-        .split_whitespace()
-        .flat_map(str::chars)
-        .map(|digit| digit.to_digit(16).unwrap_or_else(|| panic!("a digit {digit:?}")) as u8)
-        .collect();
-    let pairs = digits.chunks_exact(2);
-    assert!(pairs.remainder().is_empty(), "half a byte in {text:?}");
-    pairs.map(|pair| 16 * pair[0] + pair[1]).collect()
 }
 
 /// A message: hexadecimal digits, or `r`, how often to repeat, and what is repeated.
@@ -77,15 +64,9 @@ fn vectors(text: &str) -> Vec<Vector> {
     vectors
 }
 
-fn read_vectors(file: &str) -> Vec<Vector> {
-    let path = Path::new(env!("CARGO_MANIFEST_DIR")).join("../vectors").join(file);
-    let text = fs::read_to_string(&path).unwrap_or_else(|error| panic!("{}: {error}", path.display()));
-    vectors(&text)
-}
-
 #[test]
 fn all_vectors() {
-    let vectors: Vec<Vector> = FILES.into_iter().flat_map(read_vectors).collect();
+    let vectors: Vec<Vector> = FILES.into_iter().flat_map(|file| vectors(&vector_file::read(file))).collect();
     assert_eq!(vectors.len(), VECTORS);
     let mut random = Random::new(1);
     for Vector { w, n, message, digest } in &vectors {

@@ -10,7 +10,7 @@ use Rattle.lsh.proofs.Bytes.{Bytes}
 use Rattle.runs.specs.Limits.{longestBlock, limit}
 use Rattle.record.proofs.Sound.{Sound, sounds}
 use Rattle.runs.proofs.Limits.{digest-most}
-use Rattle.whole.proofs.FinalChain.{run-chain}
+use Rattle.finalization.proofs.MessageChain.{run-chain}
 use Rattle.close.proofs.HeldBytes.{chain-sound}
 use Rattle.close.proofs.Answers.{Accepted, accepted, refused-output, accepted-output}
 use Rattle.close.proofs.close.Statement.{statement}
@@ -45,7 +45,7 @@ write-receipt-requires c κs =
     let s : Sound (z .args .r) = is-sound p in (
       s .word,
       digest-most (z .args .r .w) (z .args .r .n) (s .digestLength),
-      run-chain (z .args .r .w) (z .args .r .n) _ (chain-sound (z .args .r) (passed p .taken) (words z)) (c .before .final-chain .ensures),
+      run-chain (z .args .r .w) _ (chain-sound (z .args .r) (passed p .taken) (words z)) (c .before .final-chain .ensures),
       passed p .end .room,
     )
 

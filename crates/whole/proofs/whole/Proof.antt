@@ -3,10 +3,9 @@ use mathlib.Core.Path.{sym, _∙_}
 use native.Mathlib.Omega.{arith}
 use lib.ListN.{length}
 use borrow.Author.Needs.{needs}
-use Rattle.lsh.proofs.Opening.{opening-chain}
 use Rattle.runs.specs.Limits.{limit}
 use Rattle.runs.proofs.Limits.{digest-most}
-use Rattle.whole.proofs.FinalChain.{run-chain}
+use Rattle.finalization.proofs.MessageChain.{opened-chain, run-chain}
 use Rattle.whole.proofs.Answers.{Accepted, accepted, refused-output, accepted-output}
 use Rattle.whole.proofs.whole.Statement.{statement}
 use Rattle.whole.proofs.whole.Tie as tie
@@ -29,20 +28,23 @@ whole-spec =
     (λ c. omega (arith, passed c .within, passed c .end .extra))
     (λ c. omega (arith, passed c .end .extra))
     (λ c κs. (passed c .end .extra, passed c .end .low))
-    (λ c κs. (passed (c .before) .wordSize, passed (c .before) .digestLength))
+    (λ c κs. (passed (c .before) .wordSize, digest-most _ _ (passed (c .before) .digestLength)))
     (λ c κs.
-    let p = c .before .before .before in
+    let p = c .before .before in
+    (passed p .wordSize, opened-chain _ _ (c .opening .ensures)))
+    (λ c κs.
+    let p = c .before .before .before .before in
     let z = p .before .before .before .before in
     let a = passed p in
-    (a .wordSize, digest-most _ _ (a .digestLength), run-chain _ (z .args .n) _ (opening-chain _ (z .args .n)) (c .before .final-chain .ensures), a .end .room))
+    (a .wordSize, digest-most _ _ (a .digestLength), run-chain _ _ (opened-chain _ _ (c .before .before .opening .ensures)) (c .before .message-chain .ensures), a .end .room))
     (λ c. search needs)
     (λ c.
-    let p = c .before .before .before .before .before .before in
+    let p = c .before .before .before .before .before .before .before in
     let z = p .before .before .before .before in
     accepted-output _ _ (z .args .message .now) _ _ (z .args .output .now)
     (sym (p .before .answer .ensures) ∙ p .if1 .left)
     (λ i. p .before .before .before .shared-slice-known .given i .fits)
     (z .fits .last .fits)
-    (c .before .before .before .before .before .pad-byte .ensures)
-    (c .before .before .before .before .final-chain .ensures)
+    (c .before .before .before .before .before .before .pad-byte .ensures)
+    (c .before .before .before .before .message-chain .ensures ∙ rw (c .before .before .before .before .before .opening .ensures))
     (c .before .before .write-receipt .ensures)))

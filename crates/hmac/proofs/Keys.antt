@@ -1,0 +1,110 @@
+-- The block of a key: it has as many bytes as a block, and so has it with each byte changed.
+-- Assumes nothing.
+use mathlib.Core.Path.{_≡_, refl, sym, ap, ap₂, _∙_}
+use mathlib.Core.Bool.{Bool, true, false, cond}
+use mathlib.Core.List.{List, _++_}
+use Prim.Native.Nat.{ℕ, _+_, _-_, _/_, _%_, _≤_, _<_}
+use native.Mathlib.Nat.{mod-self}
+use native.Mathlib.Omega.{arith}
+use borrow.Author.Tests.{lt-ltb, le-ltb, ltb-false}
+use lib.Dec.{ltb}
+use lib.ListN.{length, take, replicate, length-replicate}
+use lib.Seq.{length-take-le, getD-take, take-append-add}
+use Rattle.lsh.specs.Tabulate.{at, tabulate}
+use Rattle.lsh.specs.Word.{xor}
+use Rattle.lsh.specs.WordSize.{WordSize, isWordSize, sizeOf, blockBytes}
+use Rattle.lsh.specs.Block.{forwards}
+use Rattle.lsh.specs.Opening.{opening}
+use Rattle.lsh.specs.Padding.{blocksOf}
+use Rattle.lsh.proofs.Figures.{bits-are}
+use Rattle.lsh.proofs.Word.{xor-lt}
+use Rattle.lsh.proofs.Tabulate.{length-tabulate, at-tabulate, tabulate-ext, tabulate-cong, tabulate-all}
+use Rattle.lsh.proofs.Bytes.{Bytes}
+use Rattle.runs.specs.Limits.{longestBlock, isDigestLength}
+use Rattle.runs.specs.ZeroFilled.{zeroFilled}
+use Rattle.runs.proofs.Limits.{block-most, digest-most}
+use Rattle.runs.proofs.Zeros.{take-replicate, filled-length}
+use Rattle.record.specs.Record.{heldOf}
+use Rattle.hmac.specs.Hmac.{hashBytes, innerByte, keyBlock, xorEach, innerKey}
+use Rattle.hmac.proofs.Digests.{digestOn, hash-after, length-hash}
+
+-- each byte exclusive or x
+
+pub length-xor : (x : ℕ) (s : List ℕ) → length (xorEach x s) ≡ length s
+unfolding xorEach
+length-xor x s = length-tabulate (length s) (λ i. xor 8 (at s i) x)
+
+pub xor-bytes : (x : ℕ) (s : List ℕ) → Bytes (xorEach x s)
+unfolding xorEach
+xor-bytes x s = tabulate-all (λ (b : ℕ). b < 256) (length s) _ (omega arith) (λ k h. xor-lt 8 (at s k) x)
+
+pub take-xor : (k x : ℕ) (s : List ℕ) → k ≤ length s → take k (xorEach x s) ≡ xorEach x (take k s)
+unfolding xorEach
+take-xor k x s le =
+    let size : length (take k s) ≡ k = length-take-le k s le in
+    let all : length (xorEach x s) ≡ length s = length-xor x s in
+    sym (tabulate-ext (length (take k s)) (λ i. xor 8 (at (take k s) i) x) (take k (xorEach x s))
+    (length-take-le k (xorEach x s) (omega arith) ∙ sym size)
+    (λ i lt.
+    let inside : i < k = omega arith in
+    ap (λ (b : ℕ). xor 8 b x) (getD-take k s i 0 inside)
+    ∙ sym (getD-take k (xorEach x s) i 0 inside ∙ at-tabulate (length s) (λ j. xor 8 (at s j) x) i (omega arith))))
+
+-- the front of a string that zeros fill
+pub take-filled : (k n : ℕ) (s : List ℕ) → length s ≤ k → k ≤ n → take k (zeroFilled n s) ≡ zeroFilled k s
+take-filled k n s short le =
+    let parts : k ≡ length s + (k - length s) = omega arith in
+    ap (λ (i : ℕ). take i (zeroFilled n s)) parts
+    ∙ take-append-add s (replicate (n - length s) 0) (k - length s)
+    ∙ ap (λ (r : List ℕ). s ++ r) (take-replicate (k - length s) (n - length s) 0 (omega arith))
+
+module _ (w n : ℕ) (word : isWordSize w ≡ true) (digestLength : isDigestLength w n ≡ true) (bytewise : n % 8 ≡ 0) where
+  abbrev B : ℕ
+  B = blockBytes (sizeOf w)
+
+  pub digest-short : n / 8 ≤ B
+  unfolding blockBytes
+  digest-short = omega (arith, digest-most w n digestLength, bits-are w word)
+
+  -- the front of a string that zeros fill to the length of the longest block
+  pub held-front : (s : List ℕ) {r : List ℕ} → r ≡ heldOf s → length s ≤ B → take B r ≡ zeroFilled B s
+  unfolding heldOf
+  held-front s is short = ap (take B) is ∙ take-filled B longestBlock s short (block-most w)
+
+  module _ (key : List ℕ) where
+    -- the key that the block is made of
+    abbrev used : List ℕ
+    used = cond (ltb B (length key)) (hashBytes w n key) key
+
+    pub long-key : B < length key → zeroFilled B (hashBytes w n key) ≡ keyBlock w n key
+    unfolding keyBlock
+    long-key h = rw (lt-ltb B (length key) h)
+
+    pub short-key : length key ≤ B → zeroFilled B key ≡ keyBlock w n key
+    unfolding keyBlock
+    short-key h = rw (le-ltb B (length key) h)
+
+    used-short : (b : Bool) → ltb B (length key) ≡ b → length (cond b (hashBytes w n key) key) ≤ B
+    used-short true is = omega (arith, length-hash w n word digestLength bytewise key, digest-short)
+    used-short false is = ltb-false B (length key) is
+
+    length-key : length (keyBlock w n key) ≡ B
+    unfolding keyBlock
+    length-key = filled-length B used (used-short (ltb B (length key)) refl)
+
+    -- with each byte exclusive or x it is one block, and the digest of it and a string is that of the string on the chain after it
+    one-block : (x : ℕ) → length (xorEach x (keyBlock w n key)) % B ≡ 0
+    one-block x = ap (λ (k : ℕ). k % B) (length-xor x (keyBlock w n key) ∙ length-key) ∙ mod-self B
+
+    pub keyed-hash : (x : ℕ) (s : List ℕ) → Bytes s → {b t c d : List ℕ} → b ≡ keyBlock w n key → t ≡ opening (sizeOf w) n
+        → c ≡ forwards (sizeOf w) (blocksOf (sizeOf w) (xorEach x b)) t → d ≡ digestOn w n c s → d ≡ hashBytes w n (xorEach x (keyBlock w n key) ++ s)
+    keyed-hash x s bytes {b} {t} block first run is =
+        let z : WordSize = sizeOf w in
+        is
+        ∙ ap (λ (v : List ℕ). digestOn w n v s)
+        (run ∙ ap₂ (λ (k v : List ℕ). forwards z (blocksOf z (xorEach x k)) v) block first)
+        ∙ sym (hash-after w n (xorEach x (keyBlock w n key)) (one-block x) (xor-bytes x (keyBlock w n key)) s bytes)
+
+    pub inner-length : length (innerKey w n key) ≡ B
+    unfolding innerKey
+    inner-length = length-xor innerByte (keyBlock w n key) ∙ length-key

@@ -1,0 +1,3 @@
+-- Laws of HMAC over LSH.
+pub mod Digests
+pub mod Keys

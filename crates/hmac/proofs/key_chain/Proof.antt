@@ -1,0 +1,41 @@
+-- `hmac::key_chain` meets its contract. Assumes nothing.
+use mathlib.Core.Path.{_≡_, sym, ap, ap₂, _∙_}
+use mathlib.Core.List.{List}
+use Prim.Native.Nat.{ℕ}
+use native.Mathlib.Omega.{arith}
+use lib.ListN.{length, take}
+use lib.Seq.{length-take-le}
+use borrow.Author.Needs.{needs}
+use Rattle.lsh.specs.WordSize.{sizeOf, blockBytes}
+use Rattle.lsh.specs.Block.{forwards}
+use Rattle.lsh.specs.Padding.{blocksOf}
+use Rattle.runs.specs.Limits.{longestBlock}
+use Rattle.runs.proofs.Limits.{block-most}
+use Rattle.hmac.proofs.Keys.{take-xor}
+use Rattle.hmac.proofs.key_chain.Statement.{statement}
+use Rattle.hmac.proofs.key_chain.Tie as tie
+
+-- a block fits into the array
+inside : tie.Need-array-share-prefix-b
+inside c =
+    let long : length (c .xor-each .result) ≡ longestBlock = search needs in
+    omega (arith, c .before .block-bytes .ensures, block-most (c .before .before .args .w))
+
+pub key-chain-spec : {M : Type 1} → statement M
+key-chain-spec =
+    tie.close
+    (tie.spec
+    (λ c κs. search needs)
+    (λ c κs. search needs)
+    inside
+    (λ c. sym (length-take-le _ _ (inside (c .before))))
+    (λ c κs. search needs)
+    (λ c.
+    let f = c .before in
+    let x = f .before .before in
+    let z = x .before .before in
+    let long : length (z .args .block) ≡ longestBlock = search needs in
+    f .forward .ensures .0
+    ∙ ap (λ (s : List ℕ). forwards (sizeOf (z .args .w)) (blocksOf (sizeOf (z .args .w)) s) (z .args .opened))
+    (ap₂ (λ (k : ℕ) (s : List ℕ). take k s) (x .before .block-bytes .ensures) (x .xor-each .ensures)
+    ∙ take-xor (blockBytes (sizeOf (z .args .w))) (z .args .x) (z .args .block) (omega (arith, block-most (z .args .w))))))

@@ -1,0 +1,6 @@
+pub mod KeyAnswer
+pub mod Tag
+pub mod Start
+pub mod Finish
+pub mod Check
+pub mod Pieces

@@ -1,0 +1,134 @@
+// Tags with a key: of one message, or of pieces between start and finish, and the check of a tag.
+ghost use mathlib.Core.Path.{_≡_};
+ghost use lib.ListN.{length};
+ghost use Rattle.tag.specs.KeyAnswer.{keyAnswer, roomAnswer};
+ghost use Rattle.tag.specs.Tag.{tagAnswer, tagOutput};
+ghost use Rattle.tag.specs.Start.{startCall};
+ghost use Rattle.tag.specs.Finish.{finishAnswer, finishOutput};
+ghost use Rattle.tag.specs.Check.{checkCall};
+use record::Outcome;
+use record::Record;
+use same::Sameness;
+
+// Writes the tag of the message, if the answer is 0.
+pub fn tag(w: u64, n: u64, key: &[u8], message: &[u8], output: &mut [u8]) -> u32
+    ensures { λ r. ⌜ (r ≡ tagAnswer w n (length (now (key .entry))) (length (now (message .entry))) (length (now (output .entry)))) × (now (output .exit) ≡ tagOutput w n (now (key .entry)) (now (message .entry)) (now (output .entry))) ⌝ }
+{
+    let a = answer(w, n, key.len(), message.len(), output.len());
+    if a != 0 {
+        return a;
+    }
+    let size = (n / 8) as usize;
+    let t = hmac::hmac(w, n, key, message);
+    text::put(output, 0, &t[..size]);
+    0
+}
+
+// The record of a new tag, to which Append adds the message.
+pub fn start(w: u64, n: u64, key: &[u8]) -> Outcome
+    ensures { λ o. ⌜ o ≡ startCall w n (now (key .entry)) ⌝ }
+{
+    let a = key_answer(w, n, key.len(), 0);
+    if a != 0 {
+        return record::refused(a, record::no_record());
+    }
+    let o = record::open(w, n);
+    let opened = o.next;
+    let c = opened.chain;
+    let size = runs::block_bytes(w);
+    let block = hmac::xor_each(hmac::key_block(w, n, c, key), hmac::INNER);
+    append::accepted(opened, &block[..size])
+}
+
+// Writes the tag of the message that was appended since the start, if the answer is 0. The record is not changed, so more can be appended to it.
+pub fn finish(r: Record, key: &[u8], output: &mut [u8]) -> u32
+    ensures { λ a. ⌜ (a ≡ finishAnswer r (length (now (key .entry))) (length (now (output .entry)))) × (now (output .exit) ≡ finishOutput r (now (key .entry)) (now (output .entry))) ⌝ }
+{
+    let a = finish_answer(r, key.len(), output.len());
+    if a != 0 {
+        return a;
+    }
+    let w = r.w;
+    let n = r.n;
+    let size = (n / 8) as usize;
+    let inner = close::digest_bytes(r);
+    let t = hmac::tag_of(w, n, key, &inner[..size]);
+    text::put(output, 0, &t[..size]);
+    0
+}
+
+// Whether a tag is that of the message. A tag of another length is not, and every byte of one of this length is compared.
+pub fn check(w: u64, n: u64, key: &[u8], message: &[u8], tag: &[u8]) -> Sameness
+    ensures { λ r. ⌜ r ≡ checkCall w n (now (key .entry)) (now (message .entry)) (now (tag .entry)) ⌝ }
+{
+    let a = key_answer(w, n, key.len(), message.len());
+    if a != 0 {
+        return Sameness {
+            number: a,
+            same: false,
+        };
+    }
+    let size = (n / 8) as usize;
+    let t = hmac::hmac(w, n, key, message);
+    let yes = equal::equal_bytes(&t[..size], tag);
+    Sameness {
+        number: 0,
+        same: yes,
+    }
+}
+
+// The answer for one message. Nothing is hashed before it is known.
+fn answer(w: u64, n: u64, key: usize, message: usize, size: usize) -> u32
+    ensures { λ r. ⌜ r ≡ tagAnswer w n key message size ⌝ }
+{
+    let a = key_answer(w, n, key, message);
+    if a != 0 {
+        return a;
+    }
+    room_answer(n, size)
+}
+
+// The answer by w, n and the lengths of the key and the message.
+fn key_answer(w: u64, n: u64, key: usize, message: usize) -> u32
+    ensures { λ r. ⌜ r ≡ keyAnswer w n key message ⌝ }
+{
+    if !runs::is_word_size(w) {
+        return 1;
+    }
+    if !runs::is_digest_length(w, n) {
+        return 2;
+    }
+    if n % 8 != 0 {
+        return 18;
+    }
+    if (runs::LIMIT < key) | (runs::LIMIT - runs::block_bytes(w) < message) {
+        return 5;
+    }
+    0
+}
+
+// The answer of a finish.
+fn finish_answer(r: Record, key: usize, size: usize) -> u32
+    ensures { λ a. ⌜ a ≡ finishAnswer r key size ⌝ }
+{
+    if !record::is_sound(r) {
+        return 3;
+    }
+    if r.n % 8 != 0 {
+        return 18;
+    }
+    if runs::LIMIT < key {
+        return 5;
+    }
+    room_answer(r.n, size)
+}
+
+// The answer by the size of the output.
+fn room_answer(n: u64, size: usize) -> u32
+    ensures { λ r. ⌜ r ≡ roomAnswer n size ⌝ }
+{
+    if (size as u64) < n / 8 {
+        return 12;
+    }
+    0
+}
