@@ -352,41 +352,50 @@ static void finish_as_tag(const lsh_record *r, struct arguments given, size_t le
     }
 }
 
-/* Pieces of any length, a tag after each of them, and refused ones, which change nothing: the key's block counts to the limit. Then the message
- * is cut in steps: until the end its tag is that before. */
+/* Pieces of any length, a tag after each of them, and refused ones, which change nothing: the key's block counts to the limit. Gives the
+ * length of the message. */
+static size_t append_pieces(lsh_record *r, const struct arguments *given)
+{
+    size_t length = 0;
+    for (int i = 0; i < PIECES; i++) {
+        check(append(r, 0, LSH_MOST_BYTES - r->total + 1)->number == LSH_TOO_LONG, "a message of %zu bytes passes the limit", length);
+        *r = made.next;
+        size_t piece_len = below(LARGEST - length + 1);
+        *r = append(r, length, piece_len)->next;
+        length += piece_len;
+        check(r->total == LSH_BLOCK_BYTES(given->w) + length, "the record of a message of %zu bytes has %" PRIu64, length, r->total);
+        finish_as_tag(r, *given, length);
+    }
+    return length;
+}
+
+/* Cuts a message in steps: until the end its tag is that before. */
+static void cut_in_steps(lsh_record *r, const struct arguments *given, size_t length)
+{
+    const size_t block = LSH_BLOCK_BYTES(given->w), held = length % block;
+    size_t left = length - held;
+    *r = lsh_begin(*r, buffer(&lent) + left, held).next;
+    check(r->mark == 1, "no split rewind is begun on a message of %zu bytes", length);
+    finish_as_tag(r, *given, length);
+    while (left > 0 && below(4) != 0) {
+        left -= block;
+        *r = lsh_hand_back(*r, buffer(&lent) + left, block).next;
+        finish_as_tag(r, *given, length);
+    }
+    *r = lsh_end(*r, 0).next;
+    check(r->mark == 0, "the split rewind of a message of %zu bytes is not ended", length);
+    finish_as_tag(r, *given, left);
+}
+
 static void try_pieces(uint64_t w)
 {
     static lsh_record r;
-    const size_t block = LSH_BLOCK_BYTES(w);
-    const struct arguments given = {.w = w, .n = 8 * (1 + below(w)), .key_len = below(2 * block + 4)};
+    const struct arguments given = {.w = w, .n = 8 * (1 + below(w)), .key_len = below(2 * LSH_BLOCK_BYTES(w) + 4)};
     fill(&key);
     fill(&lent);
     r = start(&given)->next;
-    check(r.total == block, "lsh_tag_start returns a record of %" PRIu64 " bytes", r.total);
     finish_as_tag(&r, given, 0);
-    size_t length = 0;
-    for (int i = 0; i < PIECES; i++) {
-        check(append(&r, 0, LSH_MOST_BYTES - block - length + 1)->number == LSH_TOO_LONG, "a message of %zu bytes passes the limit", length);
-        r = made.next;
-        size_t piece_len = below(LARGEST - length + 1);
-        r = append(&r, length, piece_len)->next;
-        length += piece_len;
-        finish_as_tag(&r, given, length);
-    }
-
-    const size_t held = length % block;
-    r = lsh_begin(r, buffer(&lent) + length - held, held).next;
-    check(r.mark == 1, "no split rewind is begun on a record of a tag");
-    finish_as_tag(&r, given, length);
-    size_t left = length - held;
-    while (left > 0 && below(4) != 0) {
-        left -= block;
-        r = lsh_hand_back(r, buffer(&lent) + left, block).next;
-        finish_as_tag(&r, given, length);
-    }
-    r = lsh_end(r, 0).next;
-    check(r.mark == 0, "the split rewind of a tag is not ended");
-    finish_as_tag(&r, given, left);
+    cut_in_steps(&r, &given, append_pieces(&r, &given));
 }
 
 /* Another key at the finish than at the start. */
@@ -555,15 +564,12 @@ static void try_no_bytes(uint64_t w)
 
 /* ---- what is tried: records ---- */
 
-/* Keys and outputs of all kinds, also too long a key and too short an output together. */
+/* A record with keys and outputs of all these lengths. */
 static void try_record(const lsh_record *r)
 {
-    static const size_t keys[] = {0, 3, LSH_BLOCK_BYTES(64) + 1, LSH_MOST_BYTES + 1, SIZE_MAX};
-    const size_t size = r->n / 8 % LARGEST;
-    const size_t outputs[] = {0, size - (size > 0), size, size + 1, LARGEST};
-    for (size_t k = 0; k < COUNT(keys); k++) {
-        for (size_t o = 0; o < COUNT(outputs); o++) {
-            finish(r, keys[k], outputs[o]);
+    for (size_t k = 0; k < COUNT(tried_key_lengths); k++) {
+        for (size_t o = 0; o < COUNT(tried_output_lengths); o++) {
+            finish(r, tried_key_lengths[k], tried_output_lengths[o]);
         }
     }
 }

@@ -47,10 +47,8 @@ fn timings_of<W: Word>(input: &[u8]) -> Vec<Timing<'_>> {
 }
 
 fn print_report(rates: &Rates) {
-    println!(
-        "Best of {ROUNDS} rounds, in MB/s (10^6 bytes). Before the timing, all peers computed the same chains,"
-    );
-    println!("digests and tags and all buffers were touched.");
+    println!("Best of {ROUNDS} rounds, in MB/s (10^6 bytes). Before the timing, all peers computed the same chains,");
+    println!("digests and tags, and all buffers were touched.");
     table::print("Whole blocks over 1 MiB", &blocks::COLUMNS, rates);
     let title =
         format!("Append of 1 MiB to a new record, also with a new roll of {MOST_SLOTS} slots, and Rewind of 1 MiB, also in steps");

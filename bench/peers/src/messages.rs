@@ -42,12 +42,7 @@ pub fn timings<W: Word>(input: &[u8]) -> Vec<Timing<'_>> {
 type Lengths = [(&'static str, usize)];
 
 /// Every peer gives what is right for a message of each length.
-pub fn check_lengths<W: Word>(
-    input: &[u8],
-    lengths: &Lengths,
-    peers: Vec<HashPeer>,
-    right: impl Fn(&[u8]) -> Vec<u8>,
-) {
+pub fn check_lengths<W: Word>(input: &[u8], lengths: &Lengths, peers: Vec<HashPeer>, right: impl Fn(&[u8]) -> Vec<u8>) {
     for &(work, length) in lengths {
         let message = &input[..length];
         let right = right(message);

@@ -22,7 +22,7 @@ use Rattle.runs.specs.ZeroFilled.{zeroFilled}
 use Rattle.runs.proofs.Zeros.{drop-replicate}
 use Rattle.record.specs.Lists.{allBelow, allZero}
 use Rattle.record.specs.Record.{heldOf, sound, heldBytes, recordOf}
-use Rattle.record.specs.Open.{opened}
+use Rattle.record.specs.Open.{opened, openCall}
 use Rattle.record.proofs.Lists.{all-zero}
 use Rattle.record.proofs.Sound.{chain-below}
 use Rattle.record.proofs.Begun.{not-begun-sound}
@@ -67,6 +67,11 @@ module _ (w n : ℕ) (m : List ℕ) (word : isWordSize w ≡ true) where
         filled-zero longestBlock (restOf Z m) (length m % blockBytes Z) (le-of-eq size),
         not-begun-sound w (length m) chain,
       )
+
+-- what an accepted Open makes
+pub open-next : (w n : ℕ) → isWordSize w ≡ true → isDigestLength w n ≡ true → openCall w n .next ≡ opened w n
+unfolding openCall
+open-next w n word digest = rw (word, digest)
 
 -- the record of no bytes is that of a new order
 pub record-none : (w n : ℕ) → recordOf w n [] ≡ opened w n

@@ -1,13 +1,17 @@
 // Tags with a key: of one message, or of pieces between start and finish, and the check of a tag.
 ghost use mathlib.Core.Path.{_≡_};
-ghost use lib.ListN.{length};
-ghost use Rattle.tag.specs.KeyAnswer.{keyAnswer, roomAnswer};
+ghost use mathlib.Core.List.{_++_};
+ghost use Prim.Native.Nat.{_≤_};
+ghost use lib.ListN.{length, take, drop};
+ghost use Rattle.runs.specs.Limits.{longestBlock};
+ghost use Rattle.tag.specs.KeyAnswer.{tagBytes, keyAnswer, roomAnswer};
 ghost use Rattle.tag.specs.Tag.{tagAnswer, tagOutput};
 ghost use Rattle.tag.specs.Start.{startCall};
 ghost use Rattle.tag.specs.Finish.{finishAnswer, finishOutput};
 ghost use Rattle.tag.specs.Check.{checkCall};
 use record::Outcome;
 use record::Record;
+use runs::LONGEST_BLOCK;
 use same::Sameness;
 
 // Writes the tag of the message, if the answer is 0.
@@ -18,9 +22,7 @@ pub fn tag(w: u64, n: u64, key: &[u8], message: &[u8], output: &mut [u8]) -> u32
     if a != 0 {
         return a;
     }
-    let size = (n / 8) as usize;
-    let t = hmac::hmac(w, n, key, message);
-    text::put(output, 0, &t[..size]);
+    write_tag(n, hmac::hmac(w, n, key, message), output);
     0
 }
 
@@ -52,8 +54,7 @@ pub fn finish(r: Record, key: &[u8], output: &mut [u8]) -> u32
     let n = r.n;
     let size = (n / 8) as usize;
     let inner = close::digest_bytes(r);
-    let t = hmac::tag_of(w, n, key, &inner[..size]);
-    text::put(output, 0, &t[..size]);
+    write_tag(n, hmac::tag_of(w, n, key, &inner[..size]), output);
     0
 }
 
@@ -75,6 +76,15 @@ pub fn check(w: u64, n: u64, key: &[u8], message: &[u8], tag: &[u8]) -> Sameness
         number: 0,
         same: yes,
     }
+}
+
+// Writes a tag, which stands at the front of t, at the output's front.
+fn write_tag(n: u64, t: [u8; LONGEST_BLOCK], output: &mut [u8])
+    requires { ⌜ (tagBytes n ≤ longestBlock) × (tagBytes n ≤ length (now output)) ⌝ }
+    ensures { λ _. ⌜ now (output .exit) ≡ take (tagBytes n) t ++ drop (tagBytes n) (now (output .entry)) ⌝ }
+{
+    let size = (n / 8) as usize;
+    text::put(output, 0, &t[..size]);
 }
 
 // The answer for one message. Nothing is hashed before it is known.

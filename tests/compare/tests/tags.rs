@@ -15,7 +15,8 @@ use tag_calls::{right_finish, right_tag, Answer, Calls, Given};
 use vector_file::hexadecimal;
 
 at_both_word_sizes! {
-    digest_lengths bits_of_a_tag numbers_refused other_digest_lengths the_limit records_of_no_order unsound_records corrections
+    digest_lengths bits_of_a_tag numbers_refused other_digest_lengths the_limit unsound_records
+    records_of_no_order corrections
 }
 
 /// The size of an output with room for every tag, and the largest that replay takes.
@@ -55,17 +56,18 @@ fn bytes(text: &str) -> Vec<u8> {
 /// The tag of one message, of pieces, and as it is checked.
 fn try_all_ways(calls: &mut Calls, given: &Given, tag: &[u8]) {
     let right = Ok(tag.to_vec());
-    for room in rooms(&right, &mut calls.random) {
-        calls.tag(given, room, &right);
-    }
+    try_tag(calls, given, &right);
     calls.start(given);
     for piece in pieces(given.message, &mut calls.random) {
         assert_eq!(calls.append(piece), ACCEPTED);
     }
     try_finish(calls, given.key, &right);
-    calls.check(given, tag, Ok(true));
-    for other in other_tags(tag, &mut calls.random) {
-        calls.check(given, &other, Ok(false));
+    try_check(calls, given, &right);
+}
+
+fn try_tag(calls: &mut Calls, given: &Given, right: &Answer<Vec<u8>>) {
+    for room in rooms(right, &mut calls.random) {
+        calls.tag(given, room, right);
     }
 }
 
@@ -77,10 +79,22 @@ fn try_finish(calls: &mut Calls, key: &[u8], right: &Answer<Vec<u8>>) {
 
 /// The size of an output that has room for the tag, and a shorter one.
 fn rooms(right: &Answer<Vec<u8>>, random: &mut Random) -> [usize; 2] {
-    let size = right.as_ref().map_or(ROOM, Vec::len);
-    let more = size + random.below(100) as usize;
-    let less = random.below(size as u64) as usize;
-    [random.one_of([size, more]), random.one_of([size - 1, less])]
+    let Ok(tag) = right else {
+        return [ROOM, 0];
+    };
+    let more = tag.len() + random.below(100) as usize;
+    let less = random.below(tag.len() as u64) as usize;
+    [random.one_of([tag.len(), more]), random.one_of([tag.len() - 1, less])]
+}
+
+/// With the tag if there is one, and with other bytes.
+fn try_check(calls: &mut Calls, given: &Given, right: &Answer<Vec<u8>>) {
+    let verdict = |same| right.clone().map(|_| same);
+    let tag = right.clone().unwrap_or_else(|_| calls.random.bytes(ROOM));
+    calls.check(given, &tag, verdict(true));
+    for other in other_tags(&tag, &mut calls.random) {
+        calls.check(given, &other, verdict(false));
+    }
 }
 
 /// The message in pieces, some of them empty.
@@ -162,47 +176,24 @@ fn numbers_refused<W: Word>() {
 
 /// Some would be right if they were cut to fewer bits.
 fn wrong_word_sizes(w: u64) -> [u64; 10] {
-    [0, 1, 8, w - 1, w + 1, 96, 128, 1 << 32 | w, 1 << 63 | w, u64::MAX]
+    [0, 1, 8, w - 1, w + 1, 96, 128, (1 << 32) + w, (1 << 63) + w, u64::MAX]
 }
 
 fn wrong_digest_lengths(w: u64) -> [u64; 9] {
-    [0, 8 * w + 1, 8 * w + 8, 16 * w, 1 << 16 | 8, 1 << 32 | 8 * w, 1 << 63 | 8, u64::MAX - 7, u64::MAX]
+    [0, 8 * w + 1, 8 * w + 8, 16 * w, (1 << 16) + 8, (1 << 32) + 8 * w, (1 << 63) + 8, u64::MAX - 7, u64::MAX]
 }
 
 /// The calls with these numbers, and those on the record that a start returns.
 fn try_numbers(calls: &mut Calls, w: u64, n: u64) {
-    let (key, message) = random_inputs(&mut calls.random);
+    let (key, message) = (calls.some_bytes(), calls.some_bytes());
     let given = Given { w, n, key: &key, message: &message };
     let right = right_tag(&given);
-    for room in [0, ROOM] {
-        calls.tag(&given, room, &right);
-    }
-    try_check(calls, &given);
+    try_tag(calls, &given, &right);
+    try_check(calls, &given, &right);
     calls.start(&given);
     calls.append(&message);
-    for room in [0, ROOM] {
-        calls.finish(&key, room, &right_finish(&calls.record, &key));
-    }
-}
-
-/// A key and a message of a few blocks at most.
-fn random_inputs(random: &mut Random) -> (Vec<u8>, Vec<u8>) {
-    let mut some = || {
-        let most = random.one_of([2, 140, 600]);
-        let size = random.below(most);
-        random.bytes(size as usize)
-    };
-    (some(), some())
-}
-
-/// With the tag if there is one, and with other bytes.
-fn try_check(calls: &mut Calls, given: &Given) {
-    let right = right_tag(given);
-    let tag = right.clone().unwrap_or_else(|_| calls.random.bytes(ROOM));
-    calls.check(given, &tag, right.as_ref().map(|_| true).map_err(|&number| number));
-    for other in other_tags(&tag, &mut calls.random) {
-        calls.check(given, &other, right.as_ref().map(|_| false).map_err(|&number| number));
-    }
+    let right = right_finish(&calls.record, &key);
+    try_finish(calls, &key, &right);
 }
 
 /// 18 at the finish of an order with such an n, before 12.
@@ -210,12 +201,10 @@ fn other_digest_lengths<W: Word>() {
     let w = W::BITS as u64;
     let mut calls = Calls::new(47 * w);
     for n in (1..=8 * w).filter(|n| !n.is_multiple_of(8)) {
-        let (key, message) = random_inputs(&mut calls.random);
+        let (key, message) = (calls.some_bytes(), calls.some_bytes());
         calls.set(compare::open(w, n).next);
-        calls.append(&message);
-        for room in [0, ROOM] {
-            calls.finish(&key, room, &Err(BAD_TAG_LENGTH));
-        }
+        assert_eq!(calls.append(&message), ACCEPTED);
+        try_finish(&mut calls, &key, &Err(BAD_TAG_LENGTH));
     }
     calls.end("other digest lengths");
 }
@@ -226,8 +215,8 @@ fn the_limit<W: Word>() {
     let block = W::BLOCK_BYTES;
     let mut calls = Calls::new(53 * w);
     for left in [0, 1, 2, block - 1, block, block + 1, 3 * block] {
-        let (key, _) = random_inputs(&mut calls.random);
-        let n = random_tag_length(w, &mut calls.random);
+        let key = calls.some_bytes();
+        let n = calls.tag_length(w);
         calls.start(&Given { w, n, key: &key, message: &[] });
         // No test can append so many bytes, so the record is made one of a longer message with the same chain.
         let chain = calls.record.chain.map(W::from_u64);
@@ -248,18 +237,14 @@ fn the_limit<W: Word>() {
     calls.end("the limit");
 }
 
-fn random_tag_length(w: u64, random: &mut Random) -> u64 {
-    8 * (1 + random.below(w))
-}
-
 /// 3 at the finish, before 18 and 12.
 fn unsound_records<W: Word>() {
     let w = W::BITS as u64;
     let mut calls = Calls::new(59 * w);
     for total in [0, 5, 2 * W::BLOCK_BYTES as u64 + 5, MOST_BYTES] {
-        let (key, _) = random_inputs(&mut calls.random);
+        let key = calls.some_bytes();
         for r in sound_records(w, total, &mut calls.random) {
-            let n = random_tag_length(w, &mut calls.random);
+            let n = calls.tag_length(w);
             for forged in unsound(&Record { n: calls.random.one_of([n, r.n]), ..r }) {
                 calls.set(forged);
                 let room = calls.random.one_of([0, ROOM]);
@@ -278,10 +263,10 @@ fn records_of_no_order<W: Word>() {
     let mut calls = Calls::new(61 * w);
     for _ in 0..400 {
         let r = forged_record::<W>(&mut calls.random);
-        let tag_length = random_tag_length(w, &mut calls.random);
+        let tag_length = calls.tag_length(w);
         let n = calls.random.one_of([tag_length, tag_length, tag_length, r.n]);
         calls.set(Record { n, ..r });
-        let (key, _) = random_inputs(&mut calls.random);
+        let key = calls.some_bytes();
         let right = right_finish(&calls.record, &key);
         try_finish(&mut calls, &key, &right);
         calls.show();
@@ -289,35 +274,39 @@ fn records_of_no_order<W: Word>() {
     calls.end("records of no order");
 }
 
-/// Tags of messages that were cut and appended to.
+/// Tags of messages that were cut and appended to. At last the key's block is cut, which no finish sees.
 fn corrections<W: Word>() {
     let w = W::BITS as u64;
+    let block = W::BLOCK_BYTES;
     let mut calls = Calls::new(67 * w);
     for _ in 0..60 {
-        let (key, _) = random_inputs(&mut calls.random);
-        let n = random_tag_length(w, &mut calls.random);
+        let key = calls.some_bytes();
+        let n = calls.tag_length(w);
         calls.start(&Given { w, n, key: &key, message: &[] });
         let mut hashed = hmac::inner_block(w, n, &key);
         for _ in 0..15 {
-            correct::<W>(&mut calls, n, &mut hashed);
-            let right = Ok(hmac::tag_of_hashed(w, n, &key, &hashed));
+            let length = block + calls.random.below(4 * block as u64) as usize;
+            go_to::<W>(&mut calls, n, &mut hashed, length);
+            let right = Ok(hmac::tag(w, n, &key, &hashed[block..]));
             try_finish(&mut calls, &key, &right);
             finish_begun::<W>(&mut calls, &hashed, &key, &right);
         }
+        let length = calls.random.below(block as u64) as usize;
+        go_to::<W>(&mut calls, n, &mut hashed, length);
+        let right = Ok(hmac::tag_of_hashed(w, n, &key, &hashed));
+        try_finish(&mut calls, &key, &right);
     }
     calls.end("corrections");
 }
 
-/// Appends a piece, or cuts what is hashed to some length: of the message mostly, but the key's block can be cut too.
-fn correct<W: Word>(calls: &mut Calls, n: u64, hashed: &mut Vec<u8>) {
-    let block = W::BLOCK_BYTES;
-    let length = calls.random.below(4 * block as u64) as usize;
-    if length >= hashed.len() || calls.random.below(3) == 0 {
-        let piece = calls.random.bytes(length);
+/// Appends to what is hashed, or cuts it, so that it has this length.
+fn go_to<W: Word>(calls: &mut Calls, n: u64, hashed: &mut Vec<u8>, length: usize) {
+    if length > hashed.len() {
+        let piece = calls.random.bytes(length - hashed.len());
         assert_eq!(calls.append(&piece), ACCEPTED);
         hashed.extend(piece);
     } else {
-        let keep = length % block;
+        let keep = length % W::BLOCK_BYTES;
         calls.rewind(keep as u64, &hashed[length - keep..], record_of::<W>(n, &hashed[..length]));
         hashed.truncate(length);
     }
@@ -339,7 +328,7 @@ fn finish_begun<W: Word>(calls: &mut Calls, hashed: &[u8], key: &[u8], right: &A
 fn random_calls() {
     let mut calls = Calls::new(71);
     for round in 0..150 {
-        let (key, _) = random_inputs(&mut calls.random);
+        let key = calls.some_bytes();
         for _ in 0..10 {
             random_call(&mut calls, &key);
         }
@@ -349,13 +338,13 @@ fn random_calls() {
 }
 
 fn random_call(calls: &mut Calls, key: &[u8]) {
-    let (w, n) = random_numbers(&mut calls.random);
-    let (other_key, message) = random_inputs(&mut calls.random);
+    let (w, n) = random_numbers(calls);
+    let (other_key, message) = (calls.some_bytes(), calls.some_bytes());
     let given = Given { w, n, key, message: &message };
     let room = calls.random.one_of([0, (n / 8).min(MOST_ROOM as u64) as usize, ROOM, MOST_ROOM]);
     match calls.random.below(8) {
         0 => calls.tag(&given, room, &right_tag(&given)),
-        1 => try_check(calls, &given),
+        1 => try_check(calls, &given, &right_tag(&given)),
         2 => calls.start(&given),
         3 => calls.finish(&other_key, room, &right_finish(&calls.record, &other_key)),
         4 => calls.finish(key, room, &right_finish(&calls.record, key)),
@@ -364,13 +353,13 @@ fn random_call(calls: &mut Calls, key: &[u8]) {
 }
 
 /// w and n, of which one is wrong in a quarter of the cases.
-fn random_numbers(random: &mut Random) -> (u64, u64) {
-    let w = random.one_of([32, 64]);
-    let n = random_tag_length(w, random);
-    match random.below(12) {
-        0 => (random.one_of(wrong_word_sizes(w)), n),
-        1 => (w, random.one_of(wrong_digest_lengths(w))),
-        2 => (w, n - 1 - random.below(7)),
+fn random_numbers(calls: &mut Calls) -> (u64, u64) {
+    let w = calls.random.one_of([32, 64]);
+    let n = calls.tag_length(w);
+    match calls.random.below(12) {
+        0 => (calls.random.one_of(wrong_word_sizes(w)), n),
+        1 => (w, calls.random.one_of(wrong_digest_lengths(w))),
+        2 => (w, n - 1 - calls.random.below(7)),
         _ => (w, n),
     }
 }

@@ -1,48 +1,48 @@
+-- `tag::check` meets its contract. Assumes nothing.
+use mathlib.Core.Path.{_≡_, sym, ap, _∙_}
+use mathlib.Core.Bool.{Bool}
+use mathlib.Core.List.{List}
+use native.Mathlib.Omega.{arith}
+use lib.ListN.{length}
+use lib.Seq.{length-take-le}
 use borrow.Author.Needs.{needs}
+use borrow.Author.Tests.{eq-eqb, ne-eqb}
+use Rattle.runs.specs.Limits.{longestBlock}
+use Rattle.runs.proofs.Limits.{digest-longest}
+use Rattle.tag.specs.Check.{checkCall}
+use Rattle.tag.proofs.Answers.{Keyed, keyed}
 use Rattle.tag.proofs.check.Statement.{statement}
 use Rattle.tag.proofs.check.Tie as tie
-use Rattle.tag.proofs.check.Reads as reads
-use Rattle.tag.proofs.check.Lts as lts
-use Rattle.equal.proofs.equal_bytes.Reads as equal-bytes-reads
-use Rattle.hmac.proofs.hmac.Reads as hmac-reads
-use Rattle.tag.proofs.key_answer.Reads as key-answer-reads
 
--- src/lib.rt:64:9
-key-answer-requires : tie.Need-key-answer-requires
-key-answer-requires c κs = search needs
+-- the call is accepted
+passed : (c : tie.Else1)
+    → Keyed (c .before .before .before .before .before .args .w) (c .before .before .before .before .before .args .n) (length (c .before .before .before .before .before .args .key .now)) (length (c .before .before .before .before .before .args .message .now))
+passed c =
+    let a = c .before .before .before .before .before .args in
+    keyed (a .w) (a .n) (length (a .key .now)) (length (a .message .now)) (sym (c .before .key-answer .ensures) ∙ c .if1 .left)
 
--- src/lib.rt:66:9
-returns : tie.Need-returns
-returns c = ?
-
--- src/lib.rt:72:13
-hmac-requires : tie.Need-hmac-requires
-hmac-requires c κs = ?
-
--- src/lib.rt:73:34
-array-share-prefix-t : tie.Need-array-share-prefix-t
-array-share-prefix-t c = ?
-
--- src/lib.rt:73:34
-slice-aggregate-equal-bytes : tie.Need-slice-aggregate-equal-bytes
-slice-aggregate-equal-bytes c = ?
-
--- src/lib.rt:73:9
-equal-bytes-requires : tie.Need-equal-bytes-requires
-equal-bytes-requires c κs = search needs
-
--- src/lib.rt:61:1
-returns-2 : tie.Need-returns-2
-returns-2 c = ?
+-- the tag fits into its array
+inside : tie.Need-array-share-prefix-t
+inside c =
+    let long : length (c .hmac .result) ≡ longestBlock = search needs in
+    omega (arith, digest-longest _ _ (passed (c .before) .wordSize) (passed (c .before) .digestLength))
 
 pub check-spec : {M : Type 1} → statement M
+unfolding checkCall
 check-spec =
     tie.close
     (tie.spec
-    key-answer-requires
-    returns
-    hmac-requires
-    array-share-prefix-t
-    slice-aggregate-equal-bytes
-    equal-bytes-requires
-    returns-2)
+    (λ c κs. search needs)
+    (λ c. rw (sym (c .before .key-answer .ensures), ne-eqb _ 0 (c .if1 .taken)))
+    (λ c κs. (passed c .wordSize, passed c .digestLength, passed c .bytewise))
+    inside
+    (λ c. sym (length-take-le _ _ (inside (c .before))))
+    (λ c κs. search needs)
+    (λ c.
+    let k = c .before .before .before .before in
+    rw (
+      eq-eqb _ 0 (sym (k .key-answer .ensures) ∙ c .before .before .before .if1 .left),
+      sym (k .key-answer .ensures) ∙ c .before .before .before .if1 .left,
+      c .equal-bytes .ensures,
+      c .before .before .hmac .ensures,
+    )))

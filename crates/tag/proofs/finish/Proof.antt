@@ -1,69 +1,65 @@
+-- `tag::finish` meets its contract, by the answer. Assumes nothing.
+use mathlib.Core.Path.{_≡_, sym, ap, _∙_}
+use mathlib.Core.Bool.{true}
+use mathlib.Core.List.{List}
+use Prim.Native.Nat.{ℕ, _+_, _/_, _%_, _≤_}
+use native.Mathlib.Omega.{arith}
+use lib.ListN.{length, take}
+use lib.Seq.{length-take-le}
 use borrow.Author.Needs.{needs}
+use Rattle.runs.specs.Limits.{longestBlock, longestDigest}
+use Rattle.runs.proofs.Limits.{digest-longest}
+use Rattle.record.specs.Record.{sound}
+use Rattle.record.proofs.Sound.{sounds}
+use Rattle.hmac.specs.Hmac.{tagOf}
+use Rattle.tag.specs.KeyAnswer.{tagBytes}
+use Rattle.tag.proofs.Answers.{finish-accepted, finish-refused, finish-written}
 use Rattle.tag.proofs.finish.Statement.{statement}
 use Rattle.tag.proofs.finish.Tie as tie
-use Rattle.tag.proofs.finish.Reads as reads
-use Rattle.tag.proofs.finish.Lts as lts
-use Rattle.close.proofs.digest_bytes.Reads as digest-bytes-reads
-use Rattle.hmac.proofs.tag_of.Reads as tag-of-reads
-use Rattle.tag.proofs.finish_answer.Reads as finish-answer-reads
-use Rattle.text.proofs.put.Reads as put-reads
 
--- src/lib.rt:47:9
-finish-answer-requires : tie.Need-finish-answer-requires
-finish-answer-requires c κs = search needs
+-- the call is accepted
+passed : (c : tie.Else1)
+    → (sound (c .before .before .before .before .args .r) ≡ true) × (c .before .before .before .before .args .r .n % 8 ≡ 0)
+    × (tagBytes (c .before .before .before .before .args .r .n) ≤ length (c .before .before .before .before .args .output .now))
+passed c =
+    let a = c .before .before .before .before .args in
+    finish-accepted (a .r) (length (a .key .now)) (length (a .output .now)) (sym (c .before .finish-answer .ensures) ∙ c .if1 .left)
 
--- src/lib.rt:49:9
-returns : tie.Need-returns
-returns c = ?
+-- the digest fits into its array
+few : (c : tie.Else1) → c .before .before .before .before .args .r .n ≤ longestDigest 64
+few c =
+    let r = c .before .before .before .before .args .r in
+    let s = sounds r (passed c .0) in
+    digest-longest (r .w) (r .n) (s .word) (s .digestLength)
 
--- src/lib.rt:54:17
-digest-bytes-requires : tie.Need-digest-bytes-requires
-digest-bytes-requires c κs = ?
-
--- src/lib.rt:55:37
-array-share-prefix-inner : tie.Need-array-share-prefix-inner
-array-share-prefix-inner c = ?
-
--- src/lib.rt:55:37
-slice-aggregate-tag-of : tie.Need-slice-aggregate-tag-of
-slice-aggregate-tag-of c = ?
-
--- src/lib.rt:55:13
-tag-of-requires : tie.Need-tag-of-requires
-tag-of-requires c κs = ?
-
--- src/lib.rt:56:26
-array-share-prefix-t : tie.Need-array-share-prefix-t
-array-share-prefix-t c = ?
-
--- src/lib.rt:56:26
-slice-aggregate-put : tie.Need-slice-aggregate-put
-slice-aggregate-put c = ?
-
--- src/lib.rt:56:5
-put-requires : tie.Need-put-requires
-put-requires c κs = ?
-
--- src/lib.rt:44:1
-same-length : tie.Need-same-length
-same-length c = search needs
-
--- src/lib.rt:44:1
-returns-2 : tie.Need-returns-2
-returns-2 c = ?
+inside : tie.Need-array-share-prefix-inner
+inside c = let long : length (c .digest-bytes .result) ≡ longestBlock = search needs in omega (arith, few (c .before))
 
 pub finish-spec : {M : Type 1} → statement M
 finish-spec =
     tie.close
     (tie.spec
-    finish-answer-requires
-    returns
-    digest-bytes-requires
-    array-share-prefix-inner
-    slice-aggregate-tag-of
-    tag-of-requires
-    array-share-prefix-t
-    slice-aggregate-put
-    put-requires
-    same-length
-    returns-2)
+    (λ c κs. search needs)
+    (λ c.
+    let a = c .before .before .before .before .args in
+    finish-refused (a .r) (a .key .now) (a .output .now) (c .before .finish-answer .ensures) (c .if1 .taken))
+    (λ c κs. passed c .0)
+    inside
+    (λ c. sym (length-take-le _ _ (inside (c .before))))
+    (λ c κs.
+    let p = c .before .before in
+    let s = sounds (p .before .before .before .before .args .r) (passed p .0) in
+    (s .word, s .digestLength, passed p .1))
+    (λ c κs.
+    let p = c .before .before .before .before in
+    (omega (arith, few p), passed p .2))
+    (λ c. search needs)
+    (λ c.
+    let d = c .before .before .before .before .before .before in
+    let p = d .before in
+    let a = p .before .before .before .before .args in
+    let size : a .r .n / 8 ≡ (a .r .n + 7) / 8 = omega (arith, passed p .1) in
+    finish-written (a .r) (a .key .now) (a .output .now) (sym (p .before .finish-answer .ensures) ∙ p .if1 .left)
+    (c .before .before .before .before .tag-of .ensures
+    ∙ ap (tagOf (a .r .w) (a .r .n) (a .key .now)) (ap (λ (k : ℕ). take k (d .digest-bytes .result)) size ∙ d .digest-bytes .ensures))
+    (c .before .before .write-tag .ensures)))

@@ -1,36 +1,27 @@
+-- `tag::finish_answer` meets its contract. Assumes nothing.
+use mathlib.Core.Path.{_≡_, sym, _∙_}
+use mathlib.Core.Bool.{true}
 use borrow.Author.Needs.{needs}
+use borrow.Author.Tests.{lt-ltb, le-ltb, eq-eqb, ne-eqb, not-true, not-false}
+use Rattle.runs.specs.Limits.{limit}
+use Rattle.record.specs.Record.{sound}
+use Rattle.tag.specs.KeyAnswer.{isWholeBytes}
+use Rattle.tag.specs.Finish.{finishAnswer}
 use Rattle.tag.proofs.finish_answer.Statement.{statement}
 use Rattle.tag.proofs.finish_answer.Tie as tie
-use Rattle.tag.proofs.finish_answer.Reads as reads
-use Rattle.tag.proofs.finish_answer.Lts as lts
-use Rattle.record.proofs.is_sound.Reads as is-sound-reads
-use Rattle.tag.proofs.room_answer.Reads as room-answer-reads
 
--- src/lib.rt:114:9
-is-sound-requires : tie.Need-is-sound-requires
-is-sound-requires c κs = search needs
-
--- src/lib.rt:115:9
-returns : tie.Need-returns
-returns c = ?
-
--- src/lib.rt:118:9
-returns-2 : tie.Need-returns-2
-returns-2 c = ?
-
--- src/lib.rt:121:9
-returns-3 : tie.Need-returns-3
-returns-3 c = ?
-
--- src/lib.rt:123:5
-room-answer-requires : tie.Need-room-answer-requires
-room-answer-requires c κs = search needs
-
--- src/lib.rt:111:1
-returns-4 : tie.Need-returns-4
-returns-4 c = ?
+-- the record is sound
+taken : (c : tie.Else1) → sound (c .before .before .args .r) ≡ true
+taken c = sym (c .before .is-sound .ensures) ∙ not-false _ (c .if1 .left)
 
 pub finish-answer-spec : {M : Type 1} → statement M
+unfolding finishAnswer isWholeBytes limit
 finish-answer-spec =
     tie.close
-    (tie.spec is-sound-requires returns returns-2 returns-3 room-answer-requires returns-4)
+    (tie.spec
+    (λ c κs. search needs)
+    (λ c. rw (sym (c .before .is-sound .ensures) ∙ not-true _ (c .if1 .taken)))
+    (λ c. rw (taken (c .before .before), ne-eqb _ 0 (c .if2 .taken)))
+    (λ c. rw (taken (c .before .before .before), eq-eqb _ 0 (c .before .if2 .left), lt-ltb limit _ (c .if3 .taken)))
+    (λ c κs. search needs)
+    (λ c. rw (taken (c .before .before .before .before), eq-eqb _ 0 (c .before .before .if2 .left), le-ltb limit _ (c .before .if3 .left)) (c .room-answer .ensures)))

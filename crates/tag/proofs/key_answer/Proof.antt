@@ -1,58 +1,49 @@
+-- `tag::key_answer` meets its contract. Assumes nothing.
+use mathlib.Core.Path.{_≡_, sym, _∙_}
+use mathlib.Core.Bool.{true}
+use native.Mathlib.Omega.{arith}
 use borrow.Author.Needs.{needs}
+use borrow.Author.Tests.{eq-eqb, ne-eqb, not-true, not-false}
+use Rattle.lsh.specs.WordSize.{isWordSize}
+use Rattle.runs.specs.Limits.{isDigestLength, limit}
+use Rattle.runs.proofs.Limits.{block-most}
+use Rattle.tag.specs.KeyAnswer.{isWholeBytes, keyAnswer}
+use Rattle.tag.proofs.Answers.{tests-length}
 use Rattle.tag.proofs.key_answer.Statement.{statement}
 use Rattle.tag.proofs.key_answer.Tie as tie
-use Rattle.tag.proofs.key_answer.Reads as reads
-use Rattle.tag.proofs.key_answer.Lts as lts
-use Rattle.runs.proofs.block_bytes.Reads as block-bytes-reads
-use Rattle.runs.proofs.is_digest_length.Reads as is-digest-length-reads
-use Rattle.runs.proofs.is_word_size.Reads as is-word-size-reads
 
--- src/lib.rt:95:9
-is-word-size-requires : tie.Need-is-word-size-requires
-is-word-size-requires c κs = search needs
+word : (c : tie.Else1) → isWordSize (c .before .before .args .w) ≡ true
+word c = sym (c .before .is-word-size .ensures) ∙ not-false _ (c .if1 .left)
 
--- src/lib.rt:96:9
-returns : tie.Need-returns
-returns c = ?
+digest : (c : tie.Else2) → isDigestLength (c .before .before .before .before .args .w) (c .before .before .before .before .args .n) ≡ true
+digest c = sym (c .before .is-digest-length .ensures) ∙ not-false _ (c .if2 .left)
 
--- src/lib.rt:98:9
-is-digest-length-requires : tie.Need-is-digest-length-requires
-is-digest-length-requires c κs = ?
-
--- src/lib.rt:99:9
-returns-2 : tie.Need-returns-2
-returns-2 c = ?
-
--- src/lib.rt:102:9
-returns-3 : tie.Need-returns-3
-returns-3 c = ?
-
--- src/lib.rt:104:45
-block-bytes-requires : tie.Need-block-bytes-requires
-block-bytes-requires c κs = search needs
-
--- src/lib.rt:104:31
-sub-if4 : tie.Need-sub-if4
-sub-if4 c = ?
-
--- src/lib.rt:105:9
-returns-4 : tie.Need-returns-4
-returns-4 c = ?
-
--- src/lib.rt:92:1
-returns-5 : tie.Need-returns-5
-returns-5 c = ?
+block-in : tie.Need-sub-if4
+block-in c = omega (arith, c .block-bytes .ensures, block-most (c .before .before .before .before .before .before .args .w))
 
 pub key-answer-spec : {M : Type 1} → statement M
+unfolding keyAnswer isWholeBytes limit
 key-answer-spec =
     tie.close
     (tie.spec
-    is-word-size-requires
-    returns
-    is-digest-length-requires
-    returns-2
-    returns-3
-    block-bytes-requires
-    sub-if4
-    returns-4
-    returns-5)
+    (λ c κs. search needs)
+    (λ c. rw (sym (c .before .is-word-size .ensures) ∙ not-true _ (c .if1 .taken)))
+    (λ c κs. sym (c .before .is-word-size .ensures) ∙ not-false _ (c .if1 .left))
+    (λ c. rw (word (c .before .before), sym (c .before .is-digest-length .ensures) ∙ not-true _ (c .if2 .taken)))
+    (λ c. rw (word (c .before .before .before), digest (c .before), ne-eqb _ 0 (c .if3 .taken)))
+    (λ c κs. search needs)
+    block-in
+    (λ c.
+    rw (
+      word (c .before .before .before .before .before),
+      digest (c .before .before .before),
+      eq-eqb _ 0 (c .before .before .if3 .left),
+      tests-length _ _ _ (c .before .block-bytes .ensures) (c .if4 .taken),
+    ))
+    (λ c.
+    rw (
+      word (c .before .before .before .before .before),
+      digest (c .before .before .before),
+      eq-eqb _ 0 (c .before .before .if3 .left),
+      tests-length _ _ _ (c .before .block-bytes .ensures) (c .if4 .left),
+    )))

@@ -1,78 +1,95 @@
+-- `tag::start` meets its contract. Assumes nothing.
+use mathlib.Core.Path.{_≡_, sym, ap, ap₂, _∙_}
+use mathlib.Core.Bool.{true}
+use mathlib.Core.List.{List}
+use Prim.Native.Nat.{ℕ, _≤_}
+use native.Mathlib.Omega.{arith}
+use lib.ListN.{length, take}
+use lib.Seq.{length-take-le}
 use borrow.Author.Needs.{needs}
+use borrow.Author.Tests.{eq-eqb, ne-eqb}
+use Rattle.lsh.specs.WordSize.{sizeOf, blockBytes}
+use Rattle.runs.specs.Limits.{longestBlock, limit}
+use Rattle.runs.proofs.Limits.{block-most}
+use Rattle.record.specs.declared.Record.{Record}
+use Rattle.record.specs.declared.Outcome.{Outcome}
+use Rattle.record.specs.Record.{sound}
+use Rattle.record.specs.Open.{opened}
+use Rattle.record.proofs.Strings.{open-next}
+use Rattle.append.specs.Append.{appendAccepted}
+use Rattle.hmac.specs.Hmac.{innerByte, xorEach, innerKey}
+use Rattle.hmac.proofs.Keys.{take-xor}
+use Rattle.tag.specs.Start.{startCall}
+use Rattle.tag.proofs.Answers.{Keyed, keyed}
+use Rattle.tag.proofs.Started.{opened-sound}
 use Rattle.tag.proofs.start.Statement.{statement}
 use Rattle.tag.proofs.start.Tie as tie
-use Rattle.tag.proofs.start.Reads as reads
-use Rattle.tag.proofs.start.Lts as lts
-use Rattle.append.proofs.accepted.Reads as accepted-reads
-use Rattle.hmac.proofs.key_block.Reads as key-block-reads
-use Rattle.hmac.proofs.xor_each.Reads as xor-each-reads
-use Rattle.record.proofs.no_record.Reads as no-record-reads
-use Rattle.record.proofs.open.Reads as open-reads
-use Rattle.record.proofs.refused.Reads as refused-reads
-use Rattle.runs.proofs.block_bytes.Reads as block-bytes-reads
-use Rattle.tag.proofs.key_answer.Reads as key-answer-reads
 
--- src/lib.rt:31:9
-key-answer-requires : tie.Need-key-answer-requires
-key-answer-requires c κs = search needs
+-- the call is accepted
+passed : (c : tie.Else1) → Keyed (c .before .before .before .args .w) (c .before .before .before .args .n) (length (c .before .before .before .args .key .now)) 0
+passed c =
+    let a = c .before .before .before .args in
+    keyed (a .w) (a .n) (length (a .key .now)) 0 (sym (c .before .key-answer .ensures) ∙ c .if1 .left)
 
--- src/lib.rt:33:35
-no-record-requires : tie.Need-no-record-requires
-no-record-requires c κs = search needs
+-- the newly opened record
+open-is : (c : tie.After-open) → c .«open» .result .next ≡ opened (c .before .before .before .before .args .w) (c .before .before .before .before .args .n)
+open-is c =
+    let a = c .before .before .before .before .args in
+    ap (λ (o : Outcome). o .next) (c .«open» .ensures) ∙ open-next (a .w) (a .n) (passed (c .before) .wordSize) (passed (c .before) .digestLength)
 
--- src/lib.rt:33:9
-refused-requires : tie.Need-refused-requires
-refused-requires c κs = search needs
+-- a block fits into the array
+inside : tie.Need-array-share-prefix-block
+inside c =
+    let long : length (c .xor-each .result) ≡ longestBlock = search needs in
+    omega (arith, c .before .before .block-bytes .ensures, block-most (c .before .before .before .before .before .before .before .before .before .args .w))
 
--- src/lib.rt:33:9
-returns : tie.Need-returns
-returns c = ?
-
--- src/lib.rt:35:9
-open-requires : tie.Need-open-requires
-open-requires c κs = search needs
-
--- src/lib.rt:38:9
-block-bytes-requires : tie.Need-block-bytes-requires
-block-bytes-requires c κs = search needs
-
--- src/lib.rt:39:32
-key-block-requires : tie.Need-key-block-requires
-key-block-requires c κs = ?
-
--- src/lib.rt:39:17
-xor-each-requires : tie.Need-xor-each-requires
-xor-each-requires c κs = search needs
-
--- src/lib.rt:40:30
-array-share-prefix-block : tie.Need-array-share-prefix-block
-array-share-prefix-block c = ?
-
--- src/lib.rt:40:30
-slice-aggregate-accepted : tie.Need-slice-aggregate-accepted
-slice-aggregate-accepted c = ?
-
--- src/lib.rt:40:5
-accepted-requires : tie.Need-accepted-requires
-accepted-requires c κs = ?
-
--- src/lib.rt:28:1
-returns-2 : tie.Need-returns-2
-returns-2 c = ?
+-- the piece is the inner block of the key
+inner-is : (c : tie.After-xor-each)
+    → take (c .before .before .block-bytes .result) (c .xor-each .result)
+    ≡ innerKey (c .before .before .before .before .before .before .before .before .before .args .w) (c .before .before .before .before .before .before .before .before .before .args .n) (c .before .before .before .before .before .before .before .before .before .args .key .now)
+unfolding innerKey
+inner-is c =
+    let a = c .before .before .before .before .before .before .before .before .before .args in
+    let block = c .before .key-block .result in
+    let long : length block ≡ longestBlock = search needs in
+    ap₂ (λ (k : ℕ) (s : List ℕ). take k s) (c .before .before .block-bytes .ensures) (c .xor-each .ensures)
+    ∙ take-xor (blockBytes (sizeOf (a .w))) innerByte block (omega (arith, block-most (a .w)))
+    ∙ ap (xorEach innerByte) (c .before .key-block .ensures)
 
 pub start-spec : {M : Type 1} → statement M
+unfolding startCall limit opened
 start-spec =
     tie.close
     (tie.spec
-    key-answer-requires
-    no-record-requires
-    refused-requires
-    returns
-    open-requires
-    block-bytes-requires
-    key-block-requires
-    xor-each-requires
-    array-share-prefix-block
-    slice-aggregate-accepted
-    accepted-requires
-    returns-2)
+    (λ c κs. search needs)
+    (λ c κs. search needs)
+    (λ c κs. search needs)
+    (λ c.
+    let k = c .before .before .before in
+    c .refused .ensures
+    ∙ rw (sym (k .key-answer .ensures), ne-eqb _ 0 (c .before .before .if1 .taken), c .before .no-record .ensures))
+    (λ c κs. search needs)
+    (λ c κs. search needs)
+    (λ c κs.
+    let o = c .before .before .before in
+    let p = passed (o .before) in
+    (p .wordSize, p .digestLength, p .bytewise, ap (λ (r : Record). r .chain) (open-is o)))
+    (λ c κs. search needs)
+    inside
+    (λ c. sym (length-take-le _ _ (inside (c .before))))
+    (λ c κs.
+    let o = c .before .before .before .before .before .before in
+    let a = o .before .before .before .before .args in
+    let p = passed (o .before) in
+    let size = length-take-le (c .before .before .before .block-bytes .result) (c .before .xor-each .result) (inside (c .before)) in (
+      ap sound (open-is o) ∙ opened-sound (a .w) (a .n) (p .wordSize) (p .digestLength),
+      omega (arith, ap (λ (r : Record). r .total) (open-is o), size, c .before .before .before .block-bytes .ensures, block-most (a .w)),
+    ))
+    (λ c.
+    let x = c .before .before in
+    let o = x .before .before .before .before .before in
+    let k = o .before .before in
+    let a = k .before .before .args in
+    c .accepted .ensures
+    ∙ ap₂ appendAccepted (open-is o) (inner-is x)
+    ∙ sym (rw (eq-eqb _ 0 (sym (k .key-answer .ensures) ∙ o .before .if1 .left)))))

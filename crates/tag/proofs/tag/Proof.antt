@@ -1,53 +1,38 @@
+-- `tag::tag` meets its contract, by the answer. Assumes nothing.
+use mathlib.Core.Path.{_≡_, sym, _∙_}
+use Prim.Native.Nat.{_≤_}
+use native.Mathlib.Omega.{arith}
+use lib.ListN.{length}
 use borrow.Author.Needs.{needs}
+use Rattle.runs.proofs.Limits.{digest-longest}
+use Rattle.tag.specs.KeyAnswer.{tagBytes}
+use Rattle.tag.proofs.Answers.{Keyed, tag-accepted, tag-refused, tag-written}
 use Rattle.tag.proofs.tag.Statement.{statement}
 use Rattle.tag.proofs.tag.Tie as tie
-use Rattle.tag.proofs.tag.Reads as reads
-use Rattle.tag.proofs.tag.Lts as lts
-use Rattle.hmac.proofs.hmac.Reads as hmac-reads
-use Rattle.tag.proofs.answer.Reads as answer-reads
-use Rattle.text.proofs.put.Reads as put-reads
 
--- src/lib.rt:17:9
-answer-requires : tie.Need-answer-requires
-answer-requires c κs = search needs
-
--- src/lib.rt:19:9
-returns : tie.Need-returns
-returns c = ?
-
--- src/lib.rt:22:13
-hmac-requires : tie.Need-hmac-requires
-hmac-requires c κs = ?
-
--- src/lib.rt:23:26
-array-share-prefix-t : tie.Need-array-share-prefix-t
-array-share-prefix-t c = ?
-
--- src/lib.rt:23:26
-slice-aggregate-put : tie.Need-slice-aggregate-put
-slice-aggregate-put c = ?
-
--- src/lib.rt:23:5
-put-requires : tie.Need-put-requires
-put-requires c κs = ?
-
--- src/lib.rt:14:1
-same-length : tie.Need-same-length
-same-length c = search needs
-
--- src/lib.rt:14:1
-returns-2 : tie.Need-returns-2
-returns-2 c = ?
+-- the call is accepted
+passed : (c : tie.Else1)
+    → Keyed (c .before .before .before .before .before .args .w) (c .before .before .before .before .before .args .n) (length (c .before .before .before .before .before .args .key .now)) (length (c .before .before .before .before .before .args .message .now))
+    × (tagBytes (c .before .before .before .before .before .args .n) ≤ length (c .before .before .before .before .before .args .output .now))
+passed c =
+    let a = c .before .before .before .before .before .args in
+    tag-accepted (a .w) (a .n) (length (a .key .now)) (length (a .message .now)) (length (a .output .now)) (sym (c .before .answer .ensures) ∙ c .if1 .left)
 
 pub tag-spec : {M : Type 1} → statement M
 tag-spec =
     tie.close
     (tie.spec
-    answer-requires
-    returns
-    hmac-requires
-    array-share-prefix-t
-    slice-aggregate-put
-    put-requires
-    same-length
-    returns-2)
+    (λ c κs. search needs)
+    (λ c.
+    let a = c .before .before .before .before .before .args in
+    tag-refused _ _ (a .key .now) (a .message .now) (a .output .now) (c .before .answer .ensures) (c .if1 .taken))
+    (λ c κs. (passed c .0 .wordSize, passed c .0 .digestLength, passed c .0 .bytewise))
+    (λ c κs.
+    let p = c .before .before in
+    (omega (arith, digest-longest _ _ (passed p .0 .wordSize) (passed p .0 .digestLength)), passed p .1))
+    (λ c. search needs)
+    (λ c.
+    let p = c .before .before .before .before .before in
+    let a = p .before .before .before .before .before .args in
+    tag-written _ _ (a .key .now) (a .message .now) (a .output .now) (sym (p .before .answer .ensures) ∙ p .if1 .left)
+    (c .before .before .before .before .hmac .ensures) (c .before .before .write-tag .ensures)))

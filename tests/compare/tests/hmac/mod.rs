@@ -9,7 +9,7 @@ pub fn tag(w: u64, n: u64, key: &[u8], message: &[u8]) -> Vec<u8> {
     tag_of_hashed(w, n, key, &[&inner_block(w, n, key), message].concat())
 }
 
-/// The tag whose inner digest is that of these bytes, with which the key's inner block is already hashed.
+/// The tag whose inner digest is that of these bytes, of which the key's inner block are the first.
 pub fn tag_of_hashed(w: u64, n: u64, key: &[u8], hashed: &[u8]) -> Vec<u8> {
     tag_of_digest(w, n, key, &digest(w, n, hashed))
 }

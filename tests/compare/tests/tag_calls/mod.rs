@@ -101,6 +101,18 @@ impl Calls {
         Calls { random: Random::new(seed), record: no_record(), script: Script::default() }
     }
 
+    /// A key or a message of a few blocks at most.
+    pub fn some_bytes(&mut self) -> Vec<u8> {
+        let limit = self.random.one_of([2, 140, 600]);
+        let size = self.random.below(limit);
+        self.random.bytes(size as usize)
+    }
+
+    /// A digest length that is whole bytes.
+    pub fn tag_length(&mut self, w: u64) -> u64 {
+        8 * (1 + self.random.below(w))
+    }
+
     /// The tag of one message, with an output of so many bytes.
     pub fn tag(&mut self, given: &Given, room: usize, right: &Answer<Vec<u8>>) {
         let Given { w, n, key, message } = *given;

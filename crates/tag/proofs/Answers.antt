@@ -1,0 +1,133 @@
+-- What an answer says of the calls with a key, and the output after each answer.
+-- Assumes nothing.
+use mathlib.Core.Path.{_≡_, refl, sym, ap, _∙_}
+use mathlib.Core.Bool.{Bool, true, false, not, cond, _||_, false≢true}
+use mathlib.Core.List.{List, _++_}
+use Prim.Native.Nat.{ℕ, _+_, _-_, _%_, _≤_}
+use native.Mathlib.Omega.{arith}
+use borrow.Author.Tests.{eqb-true, eq-eqb, ne-eqb, lt-ltb, le-ltb, ltb-true, ltb-false}
+use lib.Dec.{eqb, ltb}
+use lib.ListN.{length, drop}
+use Rattle.lsh.specs.WordSize.{isWordSize, sizeOf, blockBytes}
+use Rattle.lsh.specs.Bits.{bytesOfBits}
+use Rattle.runs.specs.Limits.{isDigestLength, limit}
+use Rattle.runs.proofs.Limits.{block-most}
+use Rattle.record.specs.declared.Record.{Record}
+use Rattle.record.specs.Record.{sound}
+use Rattle.close.specs.Close.{closedDigest}
+use Rattle.hmac.specs.Hmac.{tagOf, hmac}
+use Rattle.tag.specs.KeyAnswer.{isWholeBytes, tagBytes, keyAnswer, roomAnswer}
+use Rattle.tag.specs.Tag.{tagAnswer, tagOutput}
+use Rattle.tag.specs.Finish.{finishAnswer, finishOutput}
+
+-- a call that the tests of w, n and the lengths accept
+pub record Keyed (w n keyLength len : ℕ) : Type 0 where
+  pub wordSize : isWordSize w ≡ true
+  pub digestLength : isDigestLength w n ≡ true
+  pub bytewise : n % 8 ≡ 0
+  pub short : keyLength ≤ limit
+  pub within : blockBytes (sizeOf w) + len ≤ limit
+
+-- the test of a sum, as the code makes it
+over : (l b m : ℕ) → b ≤ l → ltb (l - b) m ≡ ltb l (b + m)
+over l b m le = go (ltb (l - b) m) refl
+  where
+    go : (t : Bool) → ltb (l - b) m ≡ t → ltb (l - b) m ≡ ltb l (b + m)
+    go true is = is ∙ sym (lt-ltb l (b + m) (omega (arith, ltb-true (l - b) m is)))
+    go false is = is ∙ sym (le-ltb l (b + m) (omega (arith, ltb-false (l - b) m is)))
+
+pub tests-length : (w keyLength len : ℕ) {b : ℕ} {t : Bool} → b ≡ blockBytes (sizeOf w) → (ltb limit keyLength || ltb (limit - b) len) ≡ t
+    → (ltb limit keyLength || ltb limit (blockBytes (sizeOf w) + len)) ≡ t
+unfolding limit
+tests-length w keyLength len {b} size is =
+    ap (λ (x : Bool). ltb limit keyLength || x)
+    (sym (over limit (blockBytes (sizeOf w)) len (omega (arith, block-most w))) ∙ ap (λ (k : ℕ). ltb (limit - k) len) (sym size))
+    ∙ is
+
+bytewise-is : (n : ℕ) → isWholeBytes n ≡ true → n % 8 ≡ 0
+unfolding isWholeBytes
+bytewise-is n e = eqb-true (n % 8) 0 e
+
+pub keyed : (w n keyLength len : ℕ) → keyAnswer w n keyLength len ≡ 0 → Keyed w n keyLength len
+unfolding keyAnswer
+keyed w n keyLength len is =
+    let b : ℕ = blockBytes (sizeOf w) + len in
+    let passed = tests (isWordSize w) (isDigestLength w n) (isWholeBytes n) (ltb limit keyLength) (ltb limit b) is in
+    record {
+      wordSize = passed .0;
+      digestLength = passed .1;
+      bytewise = bytewise-is n (passed .2);
+      short = ltb-false limit keyLength (passed .3);
+      within = ltb-false limit b (passed .4);
+    }
+  where
+    tests : (a b c d e : Bool) → _≡_ {A = ℕ} (cond (not a) 1 (cond (not b) 2 (cond (not c) 18 (cond (d || e) 5 0)))) 0
+        → (a ≡ true) × (b ≡ true) × (c ≡ true) × (d ≡ false) × (e ≡ false)
+    tests true true true false false is = (refl, refl, refl, refl, refl)
+    tests true true true false true is = absurd (omega arith)
+    tests true true true true e is = absurd (omega arith)
+    tests true true false d e is = absurd (omega arith)
+    tests true false c d e is = absurd (omega arith)
+    tests false b c d e is = absurd (omega arith)
+
+roomy : (n size : ℕ) → roomAnswer n size ≡ 0 → tagBytes n ≤ size
+unfolding roomAnswer
+roomy n size is = ltb-false size (tagBytes n) (test (ltb size (tagBytes n)) is)
+  where
+    test : (b : Bool) → _≡_ {A = ℕ} (cond b 12 0) 0 → b ≡ false
+    test false is = refl
+    test true is = absurd (omega arith)
+
+-- the tag of one message
+module _ (w n keyLength len size : ℕ) where
+  pub tag-accepted : tagAnswer w n keyLength len size ≡ 0 → Keyed w n keyLength len × (tagBytes n ≤ size)
+  unfolding tagAnswer
+  tag-accepted is =
+      let both = tests (keyAnswer w n keyLength len) (eqb (keyAnswer w n keyLength len) 0) refl is in
+      (keyed w n keyLength len (both .0), roomy n size (both .1))
+    where
+      tests : (a : ℕ) (b : Bool) → eqb a 0 ≡ b → cond b (roomAnswer n size) a ≡ 0 → (a ≡ 0) × (roomAnswer n size ≡ 0)
+      tests a true e is = (eqb-true a 0 e, is)
+      tests a false e is = absurd (false≢true (sym e ∙ eq-eqb a 0 is))
+
+-- the finish
+module _ (r : Record) (keyLength size : ℕ) where
+  pub finish-accepted : finishAnswer r keyLength size ≡ 0 → (sound r ≡ true) × (r .n % 8 ≡ 0) × (tagBytes (r .n) ≤ size)
+  unfolding finishAnswer
+  finish-accepted is =
+      let passed = tests (sound r) (isWholeBytes (r .n)) (ltb limit keyLength) (roomAnswer (r .n) size) is in
+      (passed .0, bytewise-is (r .n) (passed .1), roomy (r .n) size (passed .2))
+    where
+      tests : (a b c : Bool) (d : ℕ) → cond (not a) 3 (cond (not b) 18 (cond c 5 d)) ≡ 0 → (a ≡ true) × (b ≡ true) × (d ≡ 0)
+      tests true true false d is = (refl, refl, is)
+      tests true true true d is = absurd (omega arith)
+      tests true false c d is = absurd (omega arith)
+      tests false b c d is = absurd (omega arith)
+
+-- the outputs
+module _ (w n : ℕ) (key m output : List ℕ) where
+  abbrev answer : ℕ
+  answer = tagAnswer w n (length key) (length m) (length output)
+
+  pub tag-refused : {a : ℕ} → a ≡ answer → (a ≡ 0 → ⊥) → (a ≡ answer) × (output ≡ tagOutput w n key m output)
+  unfolding tagOutput
+  tag-refused is other = (is, rw (ne-eqb answer 0 (λ p. other (is ∙ p))))
+
+  pub tag-written : {t d : List ℕ} → answer ≡ 0 → t ≡ hmac w n key m → d ≡ t ++ drop (tagBytes n) output → (0 ≡ answer) × (d ≡ tagOutput w n key m output)
+  unfolding tagOutput
+  tag-written is tag stored =
+      (sym is, stored ∙ ap (λ (t : List ℕ). t ++ drop (tagBytes n) output) tag ∙ sym (rw (eq-eqb answer 0 is)))
+
+module _ (r : Record) (key output : List ℕ) where
+  abbrev finished : ℕ
+  finished = finishAnswer r (length key) (length output)
+
+  pub finish-refused : {a : ℕ} → a ≡ finished → (a ≡ 0 → ⊥) → (a ≡ finished) × (output ≡ finishOutput r key output)
+  unfolding finishOutput
+  finish-refused is other = (is, rw (ne-eqb finished 0 (λ p. other (is ∙ p))))
+
+  pub finish-written : {t d : List ℕ} → finished ≡ 0 → t ≡ tagOf (r .w) (r .n) key (bytesOfBits (closedDigest r 0 0)) → d ≡ t ++ drop (tagBytes (r .n)) output
+      → (0 ≡ finished) × (d ≡ finishOutput r key output)
+  unfolding finishOutput
+  finish-written is tag stored =
+      (sym is, stored ∙ ap (λ (t : List ℕ). t ++ drop (tagBytes (r .n)) output) tag ∙ sym (rw (eq-eqb finished 0 is)))

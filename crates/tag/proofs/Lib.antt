@@ -1,0 +1,3 @@
+-- Laws of the tags.
+pub mod Answers
+pub mod Started
