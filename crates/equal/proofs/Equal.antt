@@ -1,14 +1,14 @@
 -- The test of two lists says that they are the same list; and what a loop over both lists asks for.
 -- Assumes nothing.
-use mathlib.Core.Path.{_≡_, refl, ap, ap₂, _∙_}
-use mathlib.Core.Bool.{true, false, _&&_, false≢true}
+use mathlib.Core.Path.{_≡_, refl, sym, ap, ap₂, _∙_}
+use mathlib.Core.Bool.{Bool, true, false, _&&_, and-assoc, and-comm, false≢true}
 use mathlib.Core.List.{List, [], _∷_}
 use Prim.Native.Nat.{ℕ, suc, _+_, _≤_, _<_}
 use native.Mathlib.Numerals.{add-one}
 use lib.Dec.{eqb}
 use lib.ListN.{length, drop, getD, drop-of-length-le}
 use lib.Seq.{drop-cons}
-use borrow.Author.Tests.{eqb-true, eq-eqb, ne-eqb}
+use borrow.Author.Tests.{eqb-true, eq-eqb}
 use Rattle.lsh.proofs.Tests.{and-true, and-false}
 use Rattle.equal.specs.Equal.{equal}
 
@@ -30,20 +30,15 @@ equal-length [] (y ∷ ys) differ = refl
 equal-length (x ∷ xs) [] differ = refl
 equal-length (x ∷ xs) (y ∷ ys) differ = rw (equal-length xs ys (λ e. differ (ap suc e))) (and-false (eqb x y))
 
--- what a loop over both lists has tested before place i: the answer is that of the places from i on
-abbrev pub Tested : List ℕ → List ℕ → ℕ → Type 0
-Tested s t i = equal s t ≡ equal (drop i s) (drop i t)
+-- what a loop over both lists has found before place i: the answer is that and the test of the places from i on
+abbrev pub Tested : List ℕ → List ℕ → Bool → ℕ → Type 0
+Tested s t found i = equal s t ≡ (found && equal (drop i s) (drop i t))
 
-module _ (s t : List ℕ) (i : ℕ) (before : Tested s t i) where
-  -- the test of the places from i on, by that of place i
-  at-place : i < length s → i < length t → equal s t ≡ (eqb (getD s i 0) (getD t i 0) && equal (drop (i + 1) s) (drop (i + 1) t))
-  at-place h k = before ∙ rw (add-one, drop-cons s i 0 h, drop-cons t i 0 k)
+module _ (s t : List ℕ) (found : Bool) (i : ℕ) (before : Tested s t found i) where
+  pub tested-more : i < length s → i < length t → Tested s t (found && eqb (getD s i 0) (getD t i 0)) (i + 1)
+  tested-more h k =
+      before
+      ∙ rw (add-one, drop-cons s i 0 h, drop-cons t i 0 k) (sym (and-assoc found (eqb (getD s i 0) (getD t i 0)) (equal (drop (suc i) s) (drop (suc i) t))))
 
-  pub place-differs : i < length s → i < length t → (getD s i 0 ≡ getD t i 0 → ⊥) → false ≡ equal s t
-  place-differs h k differ = rw (at-place h k, ne-eqb (getD s i 0) (getD t i 0) differ)
-
-  pub place-agrees : i < length s → i < length t → getD s i 0 ≡ getD t i 0 → Tested s t (i + 1)
-  place-agrees h k same = rw (at-place h k, eq-eqb (getD s i 0) (getD t i 0) same)
-
-  pub all-agree : length s ≤ i → length t ≤ i → true ≡ equal s t
-  all-agree h k = rw (before, drop-of-length-le s {i = i} h, drop-of-length-le t {i = i} k)
+  pub tested-all : length s ≤ i → length t ≤ i → found ≡ equal s t
+  tested-all h k = sym (before ∙ rw (drop-of-length-le s {i = i} h, drop-of-length-le t {i = i} k) (and-comm found true))

@@ -1,4 +1,5 @@
-// Whether two byte strings are the same, and whether two chains are.
+// Whether two byte strings are the same, and whether two chains are. What differs ends no loop early: of a tag every byte is compared, whatever was
+// found before it, and the compiler compares many at once.
 ghost use mathlib.Core.Path.{_≡_};
 ghost use Rattle.equal.specs.Equal.{equal};
 
@@ -8,14 +9,13 @@ pub fn equal_bytes(a: &[u8], b: &[u8]) -> bool
     if a.len() != b.len() {
         return false;
     }
+    let mut same = true;
     let mut i: usize = 0;
     while i < a.len() {
-        if a[i] != b[i] {
-            return false;
-        }
+        same = same & (a[i] == b[i]);
         i += 1;
     }
-    true
+    same
 }
 
 pub fn equal_chains(a: [u64; 16], b: [u64; 16]) -> bool
@@ -23,12 +23,11 @@ pub fn equal_chains(a: [u64; 16], b: [u64; 16]) -> bool
 {
     let x = a;
     let y = b;
+    let mut same = true;
     let mut i: usize = 0;
     while i < 16 {
-        if x[i] != y[i] {
-            return false;
-        }
+        same = same & (x[i] == y[i]);
         i += 1;
     }
-    true
+    same
 }

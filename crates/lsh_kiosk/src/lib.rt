@@ -18,6 +18,10 @@ ghost use Rattle.close.specs.Close.{closeAnswer, closeOutput};
 ghost use Rattle.whole.specs.Whole.{wholeAnswer, wholeOutput};
 ghost use Rattle.same.specs.Same.{sameCall};
 ghost use Rattle.tally.specs.Tally.{tallyCall};
+ghost use Rattle.tag.specs.Tag.{tagAnswer, tagOutput};
+ghost use Rattle.tag.specs.Start.{startCall};
+ghost use Rattle.tag.specs.Finish.{finishAnswer, finishOutput};
+ghost use Rattle.tag.specs.Check.{checkCall};
 use record::Outcome;
 use record::Record;
 use same::Sameness;
@@ -140,4 +144,38 @@ pub extern "C" fn lsh_tally(list: &[u8]) -> Counts
     ensures { λ r. ⌜ r ≡ tallyCall (now (list .entry)) ⌝ }
 {
     tally::tally(list)
+}
+
+#[no_mangle]
+pub extern "C" fn lsh_tag(w: u64, n: u64, key: &[u8], message: &[u8], output: &mut [u8]) -> u32
+    ensures { λ r. ⌜ (r ≡ tagAnswer w n (length (now (key .entry))) (length (now (message .entry))) (length (now (output .entry)))) × (now (output .exit) ≡ tagOutput w n (now (key .entry)) (now (message .entry)) (now (output .entry))) ⌝ }
+{
+    tag::tag(w, n, key, message, output)
+}
+
+#[no_mangle]
+pub extern "C" fn lsh_tag_start(w: u64, n: u64, key: &[u8]) -> Outcome
+    ensures { λ o. ⌜ o ≡ startCall w n (now (key .entry)) ⌝ }
+{
+    tag::start(w, n, key)
+}
+
+#[no_mangle]
+pub extern "C" fn lsh_tag_finish(r: Record, key: &[u8], output: &mut [u8]) -> u32
+    ensures { λ a. ⌜ (a ≡ finishAnswer r (length (now (key .entry))) (length (now (output .entry)))) × (now (output .exit) ≡ finishOutput r (now (key .entry)) (now (output .entry))) ⌝ }
+{
+    tag::finish(r, key, output)
+}
+
+#[no_mangle]
+pub extern "C" fn lsh_tag_check(
+    w: u64,
+    n: u64,
+    key: &[u8],
+    message: &[u8],
+    tag: &[u8],
+) -> Sameness
+    ensures { λ r. ⌜ r ≡ checkCall w n (now (key .entry)) (now (message .entry)) (now (tag .entry)) ⌝ }
+{
+    tag::check(w, n, key, message, tag)
 }

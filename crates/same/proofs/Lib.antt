@@ -1,5 +1,4 @@
 -- Laws of Same, and of the form of a receipt.
-pub mod Compared
 pub mod Formed
 pub mod Agreement
 pub mod Written

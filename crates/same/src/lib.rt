@@ -60,13 +60,11 @@ pub fn all_agree(a: &[u8], b: &[u8]) -> bool
     requires { ⌜ IsReceipt (now a) × IsReceipt (now b) ⌝ }
     ensures { λ r. ⌜ r ≡ sameReceipt (now (a .entry)) (now (b .entry)) ⌝ }
 {
-    let mut differ: u8 = 0;
+    let mut agree = true;
     for i in 0..RECEIPT {
-        if a[i] != b[i] {
-            differ += 1;
-        }
+        agree = agree & (a[i] == b[i]);
     }
-    differ == 0
+    agree
 }
 
 // Whether as many bytes as a receipt has are a receipt that could have been written.

@@ -3,15 +3,15 @@ use mathlib.Core.Path.{_≡_, refl, sym}
 use Prim.Native.Nat.{_-_}
 use native.Mathlib.Omega.{arith}
 use lib.ListN.{length}
-use Rattle.equal.proofs.Equal.{equal-length, Tested, place-differs, place-agrees, all-agree}
+use Rattle.equal.proofs.Equal.{equal-length, Tested, tested-more, tested-all}
 use Rattle.equal.proofs.equal_bytes.Statement.{statement}
 use Rattle.equal.proofs.equal_bytes.Tie as tie
 
 abbrev Inv-loop : tie.InvT-loop
-Inv-loop a b i₀ i = Tested a b i × (length a ≡ length b)
+Inv-loop a b same₀ i₀ same i = Tested a b same i × (length a ≡ length b)
 
 abbrev μ-loop : tie.MeasureT-loop
-μ-loop a b i₀ i = length a - i
+μ-loop a b same₀ i₀ same i = length a - i
 
 pub equal-bytes-spec : {M : Type 1} → statement M
 equal-bytes-spec =
@@ -23,14 +23,11 @@ equal-bytes-spec =
     (λ c. (refl, c .if1 .left))
     (λ c. omega arith)
     (λ c. omega (arith, c .before .before .before .loop .inv .1))
-    (λ c.
-    let l = c .before .before .before .before in
-    place-differs _ _ (l .loop .i) (l .loop .inv .0) (omega arith) (omega (arith, l .loop .inv .1)) (c .if2 .taken))
     (λ c. omega arith)
     (λ c. omega arith)
     (λ c.
-    let l = c .before .before .before .before in (
-      place-agrees _ _ (l .loop .i) (l .loop .inv .0) (omega arith) (omega (arith, l .loop .inv .1)) (c .if2 .left),
-      l .loop .inv .1,
-    ))
-    (λ c. all-agree _ _ (c .before .loop .i) (c .before .loop .inv .0) (omega arith) (omega (arith, c .before .loop .inv .1))))
+    let l = c .before .before .before in
+    (tested-more _ _ (l .loop .same) (l .loop .i) (l .loop .inv .0) (omega arith) (omega (arith, l .loop .inv .1)), l .loop .inv .1))
+    (λ c.
+    let l = c .before in
+    tested-all _ _ (l .loop .same) (l .loop .i) (l .loop .inv .0) (omega arith) (omega (arith, l .loop .inv .1))))

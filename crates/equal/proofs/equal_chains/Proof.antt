@@ -4,15 +4,15 @@ use Prim.Native.Nat.{_-_}
 use native.Mathlib.Omega.{arith}
 use lib.ListN.{length}
 use borrow.Author.Needs.{needs}
-use Rattle.equal.proofs.Equal.{Tested, place-differs, place-agrees, all-agree}
+use Rattle.equal.proofs.Equal.{Tested, tested-more, tested-all}
 use Rattle.equal.proofs.equal_chains.Statement.{statement}
 use Rattle.equal.proofs.equal_chains.Tie as tie
 
 abbrev Inv-loop : tie.InvT-loop
-Inv-loop x y i₀ i = Tested x y i × (length x ≡ 16) × (length y ≡ 16)
+Inv-loop x y same₀ i₀ same i = Tested x y same i × (length x ≡ 16) × (length y ≡ 16)
 
 abbrev μ-loop : tie.MeasureT-loop
-μ-loop x y i₀ i = 16 - i
+μ-loop x y same₀ i₀ same i = 16 - i
 
 pub equal-chains-spec : {M : Type 1} → statement M
 equal-chains-spec =
@@ -25,15 +25,14 @@ equal-chains-spec =
     (λ c. omega arith)
     (λ c. omega arith)
     (λ c. omega arith)
-    (λ c.
-    let l = c .before .before in
-    place-differs _ _ (l .loop .i) (l .loop .inv .0) (omega (arith, l .loop .inv .1)) (omega (arith, l .loop .inv .2)) (c .if1 .taken))
     (λ c. omega arith)
     (λ c. omega arith)
     (λ c.
-    let l = c .before .before in (
-      place-agrees _ _ (l .loop .i) (l .loop .inv .0) (omega (arith, l .loop .inv .1)) (omega (arith, l .loop .inv .2)) (c .if1 .left),
+    let l = c .before in (
+      tested-more _ _ (l .loop .same) (l .loop .i) (l .loop .inv .0) (omega (arith, l .loop .inv .1)) (omega (arith, l .loop .inv .2)),
       l .loop .inv .1,
       l .loop .inv .2,
     ))
-    (λ c. all-agree _ _ (c .before .loop .i) (c .before .loop .inv .0) (omega (arith, c .before .loop .inv .1)) (omega (arith, c .before .loop .inv .2))))
+    (λ c.
+    let l = c .before in
+    tested-all _ _ (l .loop .same) (l .loop .i) (l .loop .inv .0) (omega (arith, l .loop .inv .1)) (omega (arith, l .loop .inv .2))))
