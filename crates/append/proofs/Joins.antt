@@ -1,11 +1,13 @@
 -- Pieces appended one after the other are one piece, and the record of a byte string is what Append makes of a new record.
 -- Assumes nothing.
 use mathlib.Core.Path.{_≡_, sym, ap, _∙_}
-use mathlib.Core.Bool.{true}
+use mathlib.Core.Bool.{true, cond}
 use mathlib.Core.List.{List, _++_, append-assoc}
-use Prim.Native.Nat.{ℕ, _+_}
+use Prim.Native.Nat.{ℕ, _+_, _≤_, _<_}
 use native.Mathlib.Nat.{zero-add, zero-mod}
 use native.Mathlib.Omega.{arith}
+use borrow.Author.Tests.{lt-ltb, le-ltb}
+use lib.Dec.{ltb}
 use lib.ListN.{length, length-append, length-replicate}
 use Rattle.lsh.specs.WordSize.{WordSize, isWordSize, sizeOf, blockBytes}
 use Rattle.lsh.specs.Block.{forwards}
@@ -13,11 +15,12 @@ use Rattle.lsh.specs.Padding.{blocksOf, restOf}
 use Rattle.lsh.proofs.Figures.{block-some}
 use Rattle.lsh.proofs.Blocks.{forwards-append}
 use Rattle.lsh.proofs.Padding.{blocks-append, rest-append}
-use Rattle.runs.specs.Limits.{longestBlock}
+use Rattle.runs.specs.Limits.{longestBlock, isDigestLength, limit}
 use Rattle.record.specs.declared.Record.{Record}
-use Rattle.record.specs.Record.{heldOf, heldBytes, recordOf}
+use Rattle.record.specs.Record.{heldOf, heldBytes, recordOf, refused}
 use Rattle.record.specs.Open.{opened}
-use Rattle.append.specs.Append.{appended}
+use Rattle.record.proofs.Strings.{record-sound, record-idle}
+use Rattle.append.specs.Append.{appended, appendAccepted, appendCall}
 use Rattle.append.proofs.Held.{held-after}
 
 module _ (r : Record) (word : isWordSize (r .w) ≡ true) (long : length (r .held) ≡ 256) (p q : List ℕ) where
@@ -48,7 +51,7 @@ module _ (r : Record) (word : isWordSize (r .w) ≡ true) (long : length (r .hel
   append-joins = λ i. record { w = r .w; n = r .n; total = total-joins i; chain = chain-joins i; held = held-joins i; split = r .split }
 
 -- the record of the bytes of one piece
-record-piece : (w n : ℕ) (m : List ℕ) → appended (opened w n) m ≡ recordOf w n m
+pub record-piece : (w n : ℕ) (m : List ℕ) → appended (opened w n) m ≡ recordOf w n m
 unfolding recordOf opened appended heldBytes
 record-piece w n m = rw (zero-mod (blockBytes (sizeOf w)), zero-add (length m))
 
@@ -62,3 +65,20 @@ append-record w n m p word =
     ap (λ (r : Record). appended r p) (sym (record-piece w n m))
     ∙ append-joins (opened w n) word (opened-long w n) m p
     ∙ record-piece w n (m ++ p)
+
+-- Append on it: within the limit, and above it
+module _ (w n : ℕ) (m p : List ℕ) (word : isWordSize w ≡ true) (digest : isDigestLength w n ≡ true) (few : length m ≤ limit) where
+  abbrev R : Record
+  R = recordOf w n m
+
+  by-limit : appendCall R p ≡ cond (ltb limit (R .total + length p)) (refused 5 R) (appendAccepted R p)
+  unfolding appendCall
+  by-limit = rw (record-sound w n m word digest few, record-idle w n m)
+
+  pub append-over : limit < length m + length p → appendCall R p ≡ refused 5 R
+  unfolding recordOf
+  append-over over = by-limit ∙ rw (lt-ltb limit (length m + length p) over)
+
+  pub append-within : length m + length p ≤ limit → appendCall R p ≡ appendAccepted R p
+  unfolding recordOf
+  append-within within = by-limit ∙ rw (le-ltb limit (length m + length p) within)

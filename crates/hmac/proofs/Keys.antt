@@ -105,6 +105,10 @@ module _ (w n : ℕ) (word : isWordSize w ≡ true) (digestLength : isDigestLeng
         (run ∙ ap₂ (λ (k v : List ℕ). forwards z (blocksOf z (xorEach x k)) v) block first)
         ∙ sym (hash-after w n (xorEach x (keyBlock w n key)) (one-block x) (xor-bytes x (keyBlock w n key)) s bytes)
 
+    pub inner-bytes : Bytes (innerKey w n key)
+    unfolding innerKey
+    inner-bytes = xor-bytes innerByte (keyBlock w n key)
+
     pub inner-length : length (innerKey w n key) ≡ B
     unfolding innerKey
     inner-length = length-xor innerByte (keyBlock w n key) ∙ length-key

@@ -1,7 +1,7 @@
 -- The record of a byte string within the limit is sound, it holds the bytes after the last whole block, and that of no bytes is what Open makes.
 -- Assumes nothing.
-use mathlib.Core.Path.{_≡_, ap, _∙_}
-use mathlib.Core.Bool.{true}
+use mathlib.Core.Path.{_≡_, refl, ap, _∙_}
+use mathlib.Core.Bool.{true, false}
 use mathlib.Core.List.{List, []}
 use Prim.Native.Nat.{ℕ, _+_, _-_, _%_, _^_, _≤_}
 use native.Mathlib.Nat.{zero-mul, zero-div, le-of-eq}
@@ -21,7 +21,8 @@ use Rattle.runs.specs.Limits.{longestBlock, isDigestLength, limit}
 use Rattle.runs.specs.ZeroFilled.{zeroFilled}
 use Rattle.runs.proofs.Zeros.{drop-replicate}
 use Rattle.record.specs.Lists.{allBelow, allZero}
-use Rattle.record.specs.Record.{heldOf, sound, heldBytes, recordOf}
+use Rattle.record.specs.Split.{notBegun}
+use Rattle.record.specs.Record.{heldOf, sound, isBegun, heldBytes, recordOf}
 use Rattle.record.specs.Open.{opened, openCall}
 use Rattle.record.proofs.Lists.{all-zero}
 use Rattle.record.proofs.Sound.{chain-below}
@@ -67,6 +68,11 @@ module _ (w n : ℕ) (m : List ℕ) (word : isWordSize w ≡ true) where
         filled-zero longestBlock (restOf Z m) (length m % blockBytes Z) (le-of-eq size),
         not-begun-sound w (length m) chain,
       )
+
+-- no split rewind is begun in it
+pub record-idle : (w n : ℕ) (m : List ℕ) → isBegun (recordOf w n m) ≡ false
+unfolding isBegun recordOf notBegun
+record-idle w n m = refl
 
 -- what an accepted Open makes
 pub open-next : (w n : ℕ) → isWordSize w ≡ true → isDigestLength w n ≡ true → openCall w n .next ≡ opened w n

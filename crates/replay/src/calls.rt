@@ -8,6 +8,7 @@ use crate::reply;
 use crate::reply::Reply;
 use crate::rolls;
 use crate::steps;
+use crate::tags;
 use crate::words;
 use crate::words::WORDS;
 use crate::words::Words;
@@ -32,7 +33,8 @@ pub fn answer(n: usize, buffer: &[u8], k: Kept, given: &mut [u8], lent: &mut [u8
 fn read(line: &[u8], given: &mut [u8], lent: &mut [u8]) -> Words {
     let forms =
         b"open nn append b rewind nb close lns record - set nnnbbnbbn whole nnblns same bb tally b forward nob backward nob \
-          roll r rollset c showroll - appendroll b rewindroll nb endroll n begin b handback b end n abandon -";
+          roll r rollset c showroll - appendroll b rewindroll nb endroll n begin b handback b end n abandon - \
+          tag nnbbs tagstart nnb tagfinish bs tagcheck nnbbb";
     let place = script::place(forms, script::word(line, 0));
     let form = script::word(forms, std::num::wrapping_add_usize(place, 1));
     words::read(place, line, form, given, lent)
@@ -87,6 +89,7 @@ fn call(kind: usize, v: [u64; WORDS], r: Record, given: &[u8], output: &mut [u8]
         10 => blocks::backward(v, r, given, output),
         11..=16 => rolls::call(kind, v, r, given, output),
         17..=20 => steps::call(kind, v, r, given),
+        21..=24 => tags::call(kind, v, r, given, output),
         SILENT => reply::plain(reply::NOTHING, r),
         TOO_LONG => reply::plain(reply::TOO_LONG, r),
         _ => reply::plain(reply::NOT_A_CALL, r),

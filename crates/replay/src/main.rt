@@ -7,6 +7,7 @@ mod receipts;
 mod reply;
 mod rolls;
 mod steps;
+mod tags;
 mod words;
 
 ghost use mathlib.Core.Path.{_≡_};

@@ -1,3 +1,5 @@
 -- Laws of the tags.
 pub mod Answers
 pub mod Started
+pub mod Finished
+pub mod Pieces

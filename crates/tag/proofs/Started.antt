@@ -1,14 +1,40 @@
--- The record of a newly started tag.
+-- The record of a newly started tag: that of the key's inner block.
 -- Assumes nothing.
-use mathlib.Core.Path.{_≡_, sym, ap, _∙_}
-use mathlib.Core.Bool.{true}
-use mathlib.Core.List.{[]}
+use mathlib.Core.Path.{_≡_, refl, sym, ap, _∙_}
+use mathlib.Core.Bool.{Bool, true, false, cond, false≢true}
+use mathlib.Core.List.{List, []}
 use Prim.Native.Nat.{ℕ, zero-le}
+use borrow.Author.Tests.{eqb-true, eq-eqb}
+use lib.Dec.{eqb}
+use lib.ListN.{length}
 use Rattle.lsh.specs.WordSize.{isWordSize}
 use Rattle.runs.specs.Limits.{isDigestLength}
-use Rattle.record.specs.Record.{sound}
+use Rattle.record.specs.declared.Outcome.{Outcome}
+use Rattle.record.specs.Record.{sound, zeros, recordOf, refused}
 use Rattle.record.specs.Open.{opened}
 use Rattle.record.proofs.Strings.{record-sound, record-none}
+use Rattle.append.specs.Append.{appendAccepted}
+use Rattle.append.proofs.Joins.{record-piece}
+use Rattle.hmac.specs.Hmac.{innerKey}
+use Rattle.tag.specs.KeyAnswer.{keyAnswer}
+use Rattle.tag.specs.Start.{startCall}
+use Rattle.tag.proofs.Answers.{Keyed, keyed}
 
 pub opened-sound : (w n : ℕ) → isWordSize w ≡ true → isDigestLength w n ≡ true → sound (opened w n) ≡ true
 opened-sound w n word digest = ap sound (sym (record-none w n)) ∙ record-sound w n [] word digest zero-le
+
+module _ (w n : ℕ) (key : List ℕ) (accepted : startCall w n key .number ≡ 0) where
+  answer-is : keyAnswer w n (length key) 0 ≡ 0
+  unfolding startCall refused
+  answer-is = go (keyAnswer w n (length key) 0) (eqb (keyAnswer w n (length key) 0) 0) refl accepted
+    where
+      go : (a : ℕ) (b : Bool) → eqb a 0 ≡ b → cond b (appendAccepted (opened w n) (innerKey w n key)) (refused a zeros) .number ≡ 0 → a ≡ 0
+      go a true e is = eqb-true a 0 e
+      go a false e is = is
+
+  pub start-accepted : Keyed w n (length key) 0
+  start-accepted = keyed w n (length key) 0 answer-is
+
+  pub started-record : startCall w n key .next ≡ recordOf w n (innerKey w n key)
+  unfolding startCall appendAccepted
+  started-record = rw (eq-eqb (keyAnswer w n (length key) 0) 0 answer-is) (record-piece w n (innerKey w n key))

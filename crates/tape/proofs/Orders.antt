@@ -31,7 +31,7 @@ use Rattle.tape.specs.Tape.{Lent, NoRoll, Roll, Slots, wholeBlocks, tooM
 use Rattle.tape.specs.Calls.{Order, given}
 use Rattle.tape.specs.TapeRoll.{tapeChains, TapeRoll, RollShows}
 use Rattle.tape.proofs.Simulation.{Follows, choose}
-use Rattle.tape.proofs.Steps.{either, Kept, sound-is, idle-is, append-next, rewind-step}
+use Rattle.tape.proofs.Steps.{either, Kept, sound-is, append-next, rewind-step}
 use Rattle.tape.proofs.Chains.{chains-length, chains-take, chains-front, chains-cut, chain-appended, appended-chain}
 
 -- an order of the bytes s
@@ -79,7 +79,7 @@ module _ (w : ℕ) (word : isWordSize w ≡ true) (n : ℕ) (digest : isDigestLe
   pub append-alone : (p roll : List ℕ) → roll ≡ [] → Follows (Shows NoRoll w n) (given (appendCall R p) roll) (tapeAppend w NoRoll s p)
   unfolding appendCall tapeAppend recordOf
   append-alone p roll none =
-      rw (sound-is w word n digest s kept, idle-is w word n digest s kept)
+      rw (sound-is w word n digest s kept, record-idle w n s)
       (choose (λ (o : Outcome). given o roll) (ltb limit (length s + length p)) (λ over. stay NoRoll 5 roll none) (λ within. go-on NoRoll p roll none))
 
   pub rewind-alone : (keep : ℕ) (h roll : List ℕ)
@@ -117,7 +117,7 @@ module _ (w : ℕ) (word : isWordSize w ≡ true) (n : ℕ) (digest : isDigestLe
       answer-is : appendRollAnswer R (length p) roll
           ≡ cond (ltb limit (length s + length p)) 5 (cond (tooManyBlocks (Roll slots) (wholeBlocks w (s ++ p))) 16 0)
       unfolding appendRollAnswer recordOf
-      answer-is = rw (sound-is w word n digest s kept, idle-is w word n digest s kept, shows .isOf, full-test)
+      answer-is = rw (sound-is w word n digest s kept, record-idle w n s, shows .isOf, full-test)
 
       abbrev laidRoll : List ℕ
       laidRoll = laidAfter Z (checkpointChain R p) m (due R (length p)) roll
@@ -184,7 +184,7 @@ module _ (w : ℕ) (word : isWordSize w ≡ true) (n : ℕ) (digest : isDigestLe
 
     call-is : (keep : ℕ) (h : List ℕ) → rewindRollCall R keep h roll ≡ rewindCall R keep h
     unfolding rewindRollCall
-    call-is keep h = rw (sound-is w word n digest s kept, idle-is w word n digest s kept, shows .isOf)
+    call-is keep h = rw (sound-is w word n digest s kept, record-idle w n s, shows .isOf)
 
     roll-is : (keep : ℕ) (h : List ℕ) → (tapeRewind w s keep (length h) .answer .number ≡ 0 → h ≡ drop (length s - length h) s)
         → rewoundRoll R keep h roll ≡ woundRoll (tapeRewind w s keep (length h))

@@ -26,7 +26,7 @@ use Rattle.record.specs.declared.Record.{Record}
 use Rattle.record.specs.declared.Outcome.{Outcome}
 use Rattle.record.specs.Split.{notBegun}
 use Rattle.record.specs.Record.{sound, isBegun, heldOf, recordOf, refused}
-use Rattle.record.proofs.Strings.{held-record, record-sound}
+use Rattle.record.proofs.Strings.{held-record, record-sound, record-idle}
 use Rattle.append.specs.Append.{appendAccepted}
 use Rattle.append.proofs.Joins.{append-record}
 use Rattle.rewind.specs.Rewind.{startsOffBlock, keepsTooMuch, heldDiffers, reached, openingDiffers, rewound, woundBack, rewindCall}
@@ -207,10 +207,6 @@ module _ (w : ℕ) (word : isWordSize w ≡ true) where
       pub sound-is : sound (recordOf w n s) ≡ true
       sound-is = record-sound w n s word digest (kept .few)
 
-      pub idle-is : isBegun (recordOf w n s) ≡ false
-      unfolding isBegun recordOf notBegun
-      idle-is = refl
-
       -- an accepted Append gives the count of the tape, and the record of the tape that is left
       pub append-next : (p : List ℕ)
           → _≡_ {A = Outcome} (appendAccepted (recordOf w n s) p) (record { number = 0; count = wholeBlocks w (s ++ p) - wholeBlocks w s; next = recordOf w n (s ++ p) })
@@ -222,7 +218,7 @@ module _ (w : ℕ) (word : isWordSize w ≡ true) where
           → answered (rewindCall (recordOf w n s) keep h) ≡ followed (recordOf w n) (tapeRewind w s keep (length h))
       unfolding rewindCall tapeRewind tapeCut refused stays recordOf
       rewind-step keep h back =
-          rw (sound-is, idle-is)
+          rw (sound-is, record-idle w n s)
           (same-choice answered (followed (recordOf w n)) (startsOffBlock B (length s) (length h)) (λ off. refl)
           (λ off.
           same-choice answered (followed (recordOf w n)) (keepsTooMuch B keep (length h)) (λ much. refl)
