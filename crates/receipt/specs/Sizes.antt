@@ -13,6 +13,10 @@ listBytes = mostReceipts * receiptBytes
 unfoldable pub nameBytes : ℕ
 nameBytes = 4096
 
+-- the longest key, and one byte more
+unfoldable pub keyRoom : ℕ
+keyRoom = 65536 + 1
+
 -- a line: a backslash, the digits of a receipt, a space and the length, two spaces, a name each of whose bytes is escaped, and the newline;
 -- `text::put_bytes` asks for one more
 unfoldable pub lineBytes : ℕ

@@ -1,10 +1,10 @@
-// Prints a receipt of each file that it is given, one to a line with the file's name, as sha256sum prints a digest.
+// Prints a receipt of each file that it is given, or its tag with a key, one to a line with the file's name, as sha256sum prints a digest.
 ghost use mathlib.Core.Path.{_≡_};
-ghost use Prim.Native.Nat.{_+_, _*_, _≤_};
+ghost use Prim.Native.Nat.{_+_, _-_, _*_, _≤_};
 ghost use lib.ListN.{length};
 ghost use Rattle.finalization.specs.Receipt.{receiptBytes, digestPlace, lengthPlace};
 ghost use Rattle.decimal.specs.Number.{mostDigits};
-ghost use Rattle.receipt.specs.Sizes.{listBytes, nameBytes, lineBytes};
+ghost use Rattle.receipt.specs.Sizes.{listBytes, nameBytes, keyRoom, lineBytes};
 use decimal::DIGITS;
 use finalization::DIGEST;
 use finalization::LENGTH;
@@ -20,6 +20,14 @@ const LIST: usize = tally::MOST_RECEIPTS * RECEIPT;
 // The longest name of a file, for which io::buffer has room.
 const NAME: usize = 4096;
 
+// The most bytes of a key. There is room for one more, by which a longer key is found out.
+const KEY: usize = 65536;
+
+const KEY_ROOM: usize = KEY + 1;
+
+// The bytes of the longest digest, which is also the longest tag.
+const LONGEST: usize = LENGTH - DIGEST;
+
 // Room for the longest line that is printed (lineBytes in specs/Sizes.antt).
 const LINE: usize = 1 + (2 * RECEIPT + 1) + (1 + DIGITS) + 2 + 2 * NAME + 1;
 
@@ -28,6 +36,8 @@ struct Asked {
     w: u64,
     // 0 for the longest digest of the word size.
     n: u64,
+    // The argument that names the key's file, 0 if there is no key.
+    key: usize,
     digest: bool,
     length: bool,
     tally: bool,
@@ -46,6 +56,14 @@ struct Reading {
     record: Record,
 }
 
+// How many bytes of a key stand in its room, if they could be read.
+struct Filled {
+    good: bool,
+    // Whether there may be more bytes.
+    more: bool,
+    size: usize,
+}
+
 // The receipt of a file, if it could be made and printed.
 struct Made {
     good: bool,
@@ -53,35 +71,95 @@ struct Made {
 }
 
 fn main() {
-    let a = options();
+    let mut a = options();
     if a.ended {
         return;
     }
     let n = digest_length(a.w, a.n);
-    let o = record::open(a.w, n);
-    if o.number != 0 {
-        number_wrong(
-            b"-n",
-            n,
-            b": a digest has 1 bit at least and 8 times the word size at most\n",
-        );
+    a.n = n;
+    if !is_right(a) {
         return;
     }
-    receipts(a, o.next);
+    if a.key != 0 {
+        tags(a);
+        return;
+    }
+    print_files(a, b"");
 }
 
-// Prints the receipts, and their tally if it is asked for.
-fn receipts(a: Asked, opened: Record) {
+// Whether a file is named and the options suit each other; says what is wrong if not.
+fn is_right(a: Asked) -> bool {
+    if runs::longest_digest(a.w) < a.n {
+        number_wrong(
+            b"-n",
+            a.n,
+            b": a digest has 1 bit at least and 8 times the word size at most\n",
+        );
+        return false;
+    }
     if os::arg_count() <= a.first {
         io::write_all(STDERR_FILENO, b"receipt: no file is named\n");
         usage(STDERR_FILENO);
-        return;
+        return false;
     }
+    if a.key != 0 {
+        return suits_key(a);
+    }
+    true
+}
+
+fn suits_key(a: Asked) -> bool {
+    if a.n % 8 != 0 {
+        number_wrong(
+            b"-n",
+            a.n,
+            b": with --key a digest has a multiple of 8 bits\n",
+        );
+        return false;
+    }
+    if a.tally {
+        io::write_all(
+            STDERR_FILENO,
+            b"receipt: --tally counts receipts, and with --key none are made\n",
+        );
+        return false;
+    }
+    true
+}
+
+// Reads the key, and prints the tags if that went well.
+fn tags(a: Asked) {
+    let mut room = key_buffer();
+    let size = read_key(a.key, &mut room);
+    if size != 0 {
+        print_files(a, &room[..size]);
+    }
+}
+
+fn key_buffer() -> [u8; KEY_ROOM]
+    ensures { λ r. ⌜ keyRoom ≡ length r ⌝ }
+{
+    [0; KEY_ROOM]
+}
+
+// Prints the receipts, and their tally if it is asked for. With a key, which is not empty, it prints the tags.
+fn print_files(a: Asked, key: &[u8]) {
+    let opened = started(a, key);
     let mut list = list_buffer();
-    let count = files(a, opened, &mut list);
+    let count = files(a, opened, key, &mut list);
     if a.tally {
         tally(&list, count);
     }
+}
+
+// The record to which each file is appended.
+fn started(a: Asked, key: &[u8]) -> Record {
+    if key.len() == 0 {
+        let o = record::open(a.w, a.n);
+        return o.next;
+    }
+    let o = tag::start(a.w, a.n, key);
+    o.next
 }
 
 fn list_buffer() -> [u8; LIST]
@@ -103,6 +181,7 @@ fn options() -> Asked {
     let mut a = Asked {
         w: 32,
         n: 0,
+        key: 0,
         digest: false,
         length: false,
         tally: false,
@@ -145,7 +224,7 @@ fn is_option(text: &[u8]) -> bool {
 
 // The option of a name.
 fn named(mut a: Asked, name: &[u8]) -> Asked {
-    let option = script::place(b"-- --digest --length --tally -w -n -h --help", name);
+    let option = script::place(b"-- --digest --length --tally -w -n --key -h --help", name);
     match option {
         0 => a.more = false,
         1 => a.digest = true,
@@ -153,7 +232,8 @@ fn named(mut a: Asked, name: &[u8]) -> Asked {
         3 => a.tally = true,
         4 => a = word_size(a, name),
         5 => a = bits(a, name),
-        6 | 7 => a = help(a),
+        6 => a = key_file(a, name),
+        7 | 8 => a = help(a),
         _ => a = no_option(a, name),
     }
     a
@@ -188,6 +268,17 @@ fn bits(mut a: Asked, option: &[u8]) -> Asked {
         return without_files(a);
     }
     a.n = n.value;
+    a.first = std::num::wrapping_add_usize(a.first, 1);
+    a
+}
+
+// The option --key. Its file is read after all options.
+fn key_file(mut a: Asked, option: &[u8]) -> Asked {
+    if os::arg_count() <= a.first {
+        say(option, b": a file is missing after it\n");
+        return without_files(a);
+    }
+    a.key = a.first;
     a.first = std::num::wrapping_add_usize(a.first, 1);
     a
 }
@@ -248,7 +339,7 @@ fn number_wrong(option: &[u8], value: u64, fault: &[u8]) {
 fn usage(fd: i32) {
     io::write_all(
         fd,
-        b"usage: receipt [-w 32|64] [-n BITS] [--digest] [--length] [--tally] FILE...\n",
+        b"usage: receipt [-w 32|64] [-n BITS] [--key FILE] [--digest] [--length] [--tally] FILE...\n",
     );
 }
 
@@ -260,6 +351,7 @@ fn help(a: Asked) -> Asked {
         b"Prints a receipt of each file in hexadecimal, and the file's name; - is standard input.\n\
           \x20 -w 32|64    the word size, 32 if it is not given\n\
           \x20 -n BITS     the digest length, 1 to 8 times the word size, the longest if it is not given\n\
+          \x20 --key FILE  prints each file's tag with the key in FILE instead; -n is then a multiple of 8\n\
           \x20 --digest    prints the digest alone\n\
           \x20 --length    adds the length of the file in bits, as the receipt has it\n\
           \x20 --tally     adds a line: how many receipts are firsts, reprints and blanks\n\
@@ -269,15 +361,97 @@ fn help(a: Asked) -> Asked {
     without_files(a)
 }
 
-// Prints the receipts of the files, puts them into the list as long as it has room, and answers how many there are.
-fn files(a: Asked, opened: Record, list: &mut [u8]) -> usize
+// Reads the key from the file that argument i names into the room, and answers its size; 0 if there is none, which is said.
+fn read_key(i: usize, room: &mut [u8]) -> usize
+    requires { ⌜ keyRoom ≡ length (now room) ⌝ }
+    ensures { λ r. ⌜ r ≤ keyRoom ⌝ }
+{
+    let mut text = io::buffer();
+    let n = os::arg(i, &mut text);
+    if os::errno() != 0 {
+        say(b"--key", b": the file's name is too long\n");
+        return 0;
+    }
+    read_key_file(&text[..n], room)
+}
+
+// The same for the file of a name.
+fn read_key_file(name: &[u8], room: &mut [u8]) -> usize
+    requires { ⌜ keyRoom ≡ length (now room) ⌝ }
+    ensures { λ r. ⌜ r ≤ keyRoom ⌝ }
+{
+    let fd = open_file(name);
+    if fd < 0 {
+        return 0;
+    }
+    let k = fill(fd, name, room);
+    close_file(fd);
+    key_size(name, k.good, k.size)
+}
+
+// The size of a key that was read; 0 if it makes none, which is said.
+fn key_size(name: &[u8], good: bool, size: usize) -> usize
+    ensures { λ r. ⌜ r ≤ size ⌝ }
+{
+    if !good {
+        return 0;
+    }
+    if size == 0 {
+        say(name, b": the key is empty\n");
+    }
+    if KEY < size {
+        say(name, b": the key has more than 65536 bytes\n");
+        return 0;
+    }
+    size
+}
+
+// Reads until the room is full or the file ends. The reads are counted down as in read_all.
+fn fill(fd: i32, name: &[u8], room: &mut [u8]) -> Filled
+    requires { ⌜ keyRoom ≡ length (now room) ⌝ }
+    ensures { λ r. ⌜ r .size ≤ keyRoom ⌝ }
+{
+    let mut k = Filled {
+        good: true,
+        more: true,
+        size: 0,
+    };
+    let mut reads = u64::MAX;
+    while reads > 0 && k.more {
+        k = fill_some(fd, name, k.size, room);
+        reads -= 1;
+    }
+    k
+}
+
+// Reads once, to the place after the bytes that stand in the room. A full room takes no more.
+fn fill_some(fd: i32, name: &[u8], size: usize, room: &mut [u8]) -> Filled
+    requires { ⌜ (keyRoom ≡ length (now room)) × (size ≤ keyRoom) ⌝ }
+    ensures { λ r. ⌜ r .size ≤ keyRoom ⌝ }
+{
+    let rest = &mut room[size..];
+    let got = libc::read(fd, rest);
+    if got < 0 {
+        fail(name);
+    }
+    let n = io::count(got, rest);
+    Filled {
+        good: got >= 0,
+        more: n != 0,
+        size: size + n,
+    }
+}
+
+// Prints the receipts of the files, puts them into the list as long as it has room, and answers how many there are. With a key it prints the tags,
+// and there are none.
+fn files(a: Asked, opened: Record, key: &[u8], list: &mut [u8]) -> usize
     requires { ⌜ listBytes ≡ length (now list) ⌝ }
 {
     let end = os::arg_count();
     let mut count: usize = 0;
     let mut i = a.first;
     while i < end {
-        count = keep(list, count, file(a, opened, i));
+        count = keep(list, count, file(a, opened, key, i));
         i += 1;
     }
     count
@@ -299,23 +473,28 @@ fn keep(list: &mut [u8], count: usize, made: Made) -> usize
     after
 }
 
-// Prints the receipt of the file that argument i names.
-fn file(a: Asked, opened: Record, i: usize) -> Made {
+// Prints the receipt, or the tag, of the file that argument i names.
+fn file(a: Asked, opened: Record, key: &[u8], i: usize) -> Made {
     let mut text = io::buffer();
     let n = os::arg(i, &mut text);
     if os::errno() != 0 {
         io::write_all(STDERR_FILENO, b"receipt: a file's name is too long\n");
         return none_made();
     }
-    print_file(a, opened, &text[..n])
+    print_file(a, opened, key, &text[..n])
 }
 
-// Prints the receipt of the file of a name.
-fn print_file(a: Asked, opened: Record, name: &[u8]) -> Made
+// Prints the receipt, or the tag, of the file of a name. No receipt is made with a key.
+fn print_file(a: Asked, opened: Record, key: &[u8], name: &[u8]) -> Made
     requires { ⌜ length (now name) ≤ nameBytes ⌝ }
 {
     let t = read_file(name, opened);
     if !t.good {
+        return none_made();
+    }
+    if key.len() != 0 {
+        let bits = bits_since(opened.total, t.record.total);
+        print_tag(t.record, key, a.length, bits, name);
         return none_made();
     }
     let receipt = receipt_of(t.record);
@@ -332,6 +511,12 @@ fn receipt_of(r: Record) -> [u8; RECEIPT] {
     receipt
 }
 
+fn tag_of(r: Record, key: &[u8]) -> [u8; LONGEST] {
+    let mut tag = [0u8; LONGEST];
+    tag::finish(r, key, &mut tag);
+    tag
+}
+
 fn none_made() -> Made {
     Made {
         good: false,
@@ -339,19 +524,33 @@ fn none_made() -> Made {
     }
 }
 
-// The record of a file's bytes. A dash names standard input.
+// The record of a file's bytes.
 fn read_file(name: &[u8], opened: Record) -> Reading {
+    let fd = open_file(name);
+    if fd < 0 {
+        return so_far(false, false, opened);
+    }
+    let t = read_all(fd, name, opened);
+    close_file(fd);
+    t
+}
+
+// The descriptor of a file, or -1, which is said. A dash names standard input.
+fn open_file(name: &[u8]) -> i32 {
     if equal::equal_bytes(name, b"-") {
-        return read_all(STDIN_FILENO, name, opened);
+        return STDIN_FILENO;
     }
     let fd = os::open_read(name);
     if fd < 0 {
         fail(name);
-        return so_far(false, false, opened);
     }
-    let t = read_all(fd, name, opened);
-    libc::close(fd);
-    t
+    fd
+}
+
+fn close_file(fd: i32) {
+    if fd != STDIN_FILENO {
+        libc::close(fd);
+    }
 }
 
 // A proved loop has to end, and nothing says that a file does, so the reads are counted down from a number that no run uses up.
@@ -384,7 +583,10 @@ fn append(name: &[u8], r: Record, piece: &[u8]) -> Reading {
     }
     let o = append::append(r, piece);
     if o.number != 0 {
-        say(name, b": it has more than 2^40 bytes\n");
+        say(
+            name,
+            b": it has more than 2^40 bytes, the key's block counted if there is a key\n",
+        );
         return so_far(false, false, r);
     }
     so_far(true, true, o.next)
@@ -411,24 +613,38 @@ fn print_receipt(a: Asked, n: u64, receipt: [u8; RECEIPT], name: &[u8]) -> bool
     let r = receipt;
     let bits = same::bit_length_of(&r);
     if a.digest {
-        let end = digest_end(n);
+        let end = DIGEST + digest_bytes(n);
         return print_line(&r[DIGEST..end], a.length, bits, name);
     }
     print_line(&r, a.length, bits, name)
 }
 
-// The place after a digest of n bits in a receipt.
-fn digest_end(n: u64) -> usize
-    ensures { λ r. ⌜ (digestPlace ≤ r) × (r ≤ lengthPlace) ⌝ }
+// Prints the tag of what was appended, the length of the file if it is asked for, and the name.
+fn print_tag(r: Record, key: &[u8], with_length: bool, bits: u64, name: &[u8])
+    requires { ⌜ length (now name) ≤ nameBytes ⌝ }
 {
-    if runs::longest_digest(64) < n {
-        return LENGTH;
-    }
-    let bytes = (n + 7) / 8;
-    DIGEST + bytes as usize
+    let t = tag_of(r, key);
+    let size = digest_bytes(r.n);
+    print_line(&t[..size], with_length, bits, name);
 }
 
-// Prints bytes of a receipt, the length if it is asked for, and the name in a line.
+// The bits of what was appended since the record had this total.
+fn bits_since(before: u64, total: u64) -> u64 {
+    std::num::wrapping_sub_u64(total, before) << 3
+}
+
+// The bytes of a digest, or a tag, of n bits.
+fn digest_bytes(n: u64) -> usize
+    ensures { λ r. ⌜ r ≤ lengthPlace - digestPlace ⌝ }
+{
+    if runs::longest_digest(64) < n {
+        return LONGEST;
+    }
+    let bytes = (n + 7) / 8;
+    bytes as usize
+}
+
+// Prints bytes of a receipt or of a tag, the length if it is asked for, and the name in a line.
 fn print_line(shown: &[u8], with_length: bool, bits: u64, name: &[u8]) -> bool
     requires { ⌜ (length (now shown) ≤ receiptBytes) × (length (now name) ≤ nameBytes) ⌝ }
 {

@@ -9,7 +9,7 @@ use borrow.Author.Tests.{ltb-true, ltb-false}
 use lib.Dec.{eqb, ltb}
 use lib.ListN.{length, length-append}
 use Rattle.lsh.specs.ByteString.{ByteString}
-use Rattle.lsh.specs.WordSize.{isWordSize, sizeOf, blockBytes}
+use Rattle.lsh.specs.WordSize.{isWordSize}
 use Rattle.lsh.proofs.Bytes.{Bytes, bytes-append}
 use Rattle.runs.specs.Limits.{isDigestLength, limit}
 use Rattle.record.specs.declared.Record.{Record}
@@ -18,13 +18,12 @@ use Rattle.record.specs.Record.{recordOf, refused}
 use Rattle.append.specs.Append.{appendAccepted, appendCall}
 use Rattle.append.proofs.Joins.{append-record, append-over, append-within}
 use Rattle.hmac.specs.Hmac.{innerKey}
-use Rattle.hmac.proofs.Keys.{inner-length}
 use Rattle.tag.specs.Tag.{tagAnswer, tagOutput}
 use Rattle.tag.specs.Start.{startCall}
 use Rattle.tag.specs.Finish.{finishAnswer, finishOutput}
 use Rattle.tag.specs.Pieces.{afterPieces, acceptedBytes}
 use Rattle.tag.proofs.Answers.{Keyed}
-use Rattle.tag.proofs.Started.{start-accepted, started-record}
+use Rattle.tag.proofs.Started.{start-accepted, started-record, started-length}
 use Rattle.tag.proofs.Finished.{same-answer, same-output}
 
 module _ (w n : ℕ) (word : isWordSize w ≡ true) (digest : isDigestLength w n ≡ true) where
@@ -77,14 +76,11 @@ module _ (w n : ℕ) (key : List ℕ) (accepted : startCall w n key .number ≡ 
   ok : Keyed w n (length key) 0
   ok = start-accepted w n key accepted
 
-  first : length (innerKey w n key) ≡ blockBytes (sizeOf w)
-  first = inner-length w n (ok .wordSize) (ok .digestLength) (ok .bytewise) key
-
   all : Joined w n (ok .wordSize) (ok .digestLength) (innerKey w n key) (afterPieces started ps) message
   all =
       subst (λ (r : Record). Joined w n (ok .wordSize) (ok .digestLength) (innerKey w n key) (afterPieces r ps) (acceptedBytes r ps))
       (sym (started-record w n key accepted))
-      (joined w n (ok .wordSize) (ok .digestLength) ps (innerKey w n key) (omega (arith, first, ok .within)))
+      (joined w n (ok .wordSize) (ok .digestLength) ps (innerKey w n key) (omega (arith, started-length w n key accepted, ok .within)))
 
   keyed : Keyed w n (length key) (length message)
   keyed =
@@ -93,7 +89,7 @@ module _ (w n : ℕ) (key : List ℕ) (accepted : startCall w n key .number ≡ 
         digestLength = ok .digestLength;
         bytewise = ok .bytewise;
         short = ok .short;
-        within = omega (arith, first, all .few);
+        within = omega (arith, started-length w n key accepted, all .few);
       }
 
   pub tag-of-pieces : (output : List ℕ)

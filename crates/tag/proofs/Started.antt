@@ -4,10 +4,12 @@ use mathlib.Core.Path.{_≡_, refl, sym, ap, _∙_}
 use mathlib.Core.Bool.{Bool, true, false, cond, false≢true}
 use mathlib.Core.List.{List, []}
 use Prim.Native.Nat.{ℕ, zero-le}
+use native.Mathlib.Nat.{zero-add, zero-div, div-self}
 use borrow.Author.Tests.{eqb-true, eq-eqb}
 use lib.Dec.{eqb}
 use lib.ListN.{length}
-use Rattle.lsh.specs.WordSize.{isWordSize}
+use Rattle.lsh.specs.WordSize.{isWordSize, sizeOf, blockBytes}
+use Rattle.lsh.proofs.Figures.{block-some}
 use Rattle.runs.specs.Limits.{isDigestLength}
 use Rattle.record.specs.declared.Outcome.{Outcome}
 use Rattle.record.specs.Record.{sound, zeros, recordOf, refused}
@@ -16,6 +18,7 @@ use Rattle.record.proofs.Strings.{record-sound, record-none}
 use Rattle.append.specs.Append.{appendAccepted}
 use Rattle.append.proofs.Joins.{record-piece}
 use Rattle.hmac.specs.Hmac.{innerKey}
+use Rattle.hmac.proofs.Keys.{inner-length}
 use Rattle.tag.specs.KeyAnswer.{keyAnswer}
 use Rattle.tag.specs.Start.{startCall}
 use Rattle.tag.proofs.Answers.{Keyed, keyed}
@@ -38,3 +41,18 @@ module _ (w n : ℕ) (key : List ℕ) (accepted : startCall w n key .number ≡ 
   pub started-record : startCall w n key .next ≡ recordOf w n (innerKey w n key)
   unfolding startCall appendAccepted
   started-record = rw (eq-eqb (keyAnswer w n (length key) 0) 0 answer-is) (record-piece w n (innerKey w n key))
+
+  pub started-length : length (innerKey w n key) ≡ blockBytes (sizeOf w)
+  started-length = inner-length w n (start-accepted .wordSize) (start-accepted .digestLength) (start-accepted .bytewise) key
+
+  -- one block is run
+  pub started-count : startCall w n key .count ≡ 1
+  unfolding startCall appendAccepted opened
+  started-count =
+      rw (
+        eq-eqb (keyAnswer w n (length key) 0) 0 answer-is,
+        zero-add (length (innerKey w n key)),
+        started-length,
+        div-self (block-some w),
+        zero-div (blockBytes (sizeOf w)),
+      )

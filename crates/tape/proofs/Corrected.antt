@@ -1,5 +1,5 @@
--- Demand 3: after every list of Append and Rewind calls and steps of split rewinds on a newly opened record, with a roll in all of them or in none, refused
--- ones included, the answers with their counts are the tape's, the record is that of the tape, the roll shows the tape's chains, and the blocks run forward
+-- Demand 3: after every list of Append and Rewind calls and steps of split rewinds on a newly opened record or a newly started tag, with a roll in all of
+-- them or in none, refused ones included, the answers with their counts are the tape's, the record is that of the tape, the roll shows the tape's chains, and the blocks run forward
 -- are those run backward and the whole blocks that remain.
 -- Assumes nothing.
 use mathlib.Core.Path.{_≡_, refl, sym, ap, _∙_, subst}
@@ -27,11 +27,13 @@ use Rattle.tape.specs.Sequence.{Given, answers}
 use Rattle.tape.specs.Tape.{Lent, NoRoll, Roll, Tape, plain, wholeBlocks, tooManyBlocks, stays, plainly, tapeAppend, tapeCut, tapeRewind}
 use Rattle.tape.specs.TapeSteps.{taken, moved, tapeBegin, tapeHandBack, tapeHanded, tapeEnd, tapeAbandon, tapeRecord}
 use Rattle.tape.specs.Calls.{Call, Append, Rewind, Begin, HandBack, End, Abandon, Order, orderCall, tapeCall, HandsBack, forwardCount, backwardCount}
+use Rattle.tape.specs.First.{First, firstCall, firstBytes}
 use Rattle.tape.specs.TapeRoll.{tapeChains, RollShows, lentRoll}
 use Rattle.tape.specs.Corrected.{newOrder, orderAfter, orderAnswers, tapeAfter, tapeAnswers, Premise, Corrected, byLength, allByLength}
 use Rattle.tape.proofs.Simulation.{Follows, good-after, calls-follow, counts}
 use Rattle.tape.proofs.Steps.{either, Kept, append-kept, append-count, take-kept, rewind-kept, cut-count, rewind-count}
 use Rattle.tape.proofs.Tapes.{ShowsTape, on-tape}
+use Rattle.tape.proofs.First.{NewOrder, new-order}
 
 -- what holds of the tape throughout: no more blocks are handed back than it has
 pub record KeptTape (w : ℕ) (t : Tape) : Type 0 where
@@ -140,66 +142,54 @@ tape-by-length : (w : ℕ) (lent : Lent) (cs : List Call) (t : Tape) → allByLe
 tape-by-length w lent [] t = refl
 tape-by-length w lent (c ∷ cs) t = rw (call-by-length w lent t c) (tape-by-length w lent cs (tapeCall w lent t c .next))
 
--- a newly opened record, and a new roll
-pub open-accepted : (w n : ℕ) → openCall w n .number ≡ 0 → (isWordSize w ≡ true) × (isDigestLength w n ≡ true)
-unfolding openCall refused
-open-accepted w n e = tests (isWordSize w) (isDigestLength w n) (record { number = 0; count = 0; next = opened w n }) e
-  where
-    tests : (a b : Bool) (o : Outcome) → cond (not a) (refused 1 zeros) (cond (not b) (refused 2 zeros) o) .number ≡ 0 → (a ≡ true) × (b ≡ true)
-    tests true true o e = (refl, refl)
-    tests true false o e = absurd (omega arith)
-    tests false b o e = absurd (omega arith)
+-- a new roll shows the chains of a tape with less than 64 blocks
+no-checkpoints : (w : ℕ) (s : List ℕ) → wholeBlocks w s ≤ 1 → checkpoints w (length s) ≡ 0
+unfolding checkpoints wholeBlocks
+no-checkpoints w s short = omega (arith, short)
 
-empty-kept : (w : ℕ) → KeptTape w (plain [])
-empty-kept w = plain-kept w [] (record { few = zero-le; bytes = λ i. omega arith })
-
-no-checkpoints : (w : ℕ) → checkpoints w 0 ≡ 0
-unfolding checkpoints
-no-checkpoints w = ap (λ (b : ℕ). b / spacing) (zero-div (blockBytes (sizeOf w)))
-
-lent-shows : (w n : ℕ) (lent : Lent) → RollShows lent w n [] (lentRoll w lent)
+lent-shows : (w n : ℕ) (s : List ℕ) → wholeBlocks w s ≤ 1 → (lent : Lent) → RollShows lent w n s (lentRoll w lent)
 unfolding recordOf
-lent-shows w n NoRoll = refl
-lent-shows w n (Roll slots) =
+lent-shows w n s short NoRoll = refl
+lent-shows w n s short (Roll slots) =
     let z = sizeOf w in
     let k = slots .count in
-    let none = no-checkpoints w in
+    let none = no-checkpoints w s short in
     record {
       size = new-size z k (slots .some) (slots .most);
       isOf =
-          is-roll-of (recordOf w n []) (newRoll z k) (new-roll z k (slots .some) (slots .most))
+          is-roll-of (recordOf w n s) (newRoll z k) (new-roll z k (slots .some) (slots .most))
           (ap length (new-links z k (slots .some) (slots .most)) ∙ sym none);
-      chains = new-shown z k (slots .some) (slots .most) ∙ ap (tapeChains w n []) (sym none);
+      chains = new-shown z k (slots .some) (slots .most) ∙ ap (tapeChains w n s) (sym none);
     }
 
-module _ (w n : ℕ) (lent : Lent) (cs : List Call) (accepted : openCall w n .number ≡ 0) where
-  word : isWordSize w ≡ true
-  word = open-accepted w n accepted .0
+module _ (w n : ℕ) (first : First) (lent : Lent) (cs : List Call) (accepted : firstCall w n first .number ≡ 0) where
+  abbrev S : List ℕ
+  S = firstBytes w n first
 
-  digest : isDigestLength w n ≡ true
-  digest = open-accepted w n accepted .1
+  new : NewOrder w n (firstCall w n first) S
+  new = new-order w n first accepted
 
-  pub open-record : openCall w n .next ≡ recordOf w n []
-  unfolding openCall
-  open-record = rw (word, digest) (sym (record-none w n))
+  new-kept : KeptTape w (plain S)
+  new-kept = plain-kept w S (new .kept)
 
-  pub tape-kept : KeptTape w (tapeAfter w lent cs)
+  pub tape-kept : KeptTape w (tapeAfter w n first lent cs)
   unfolding tapeAfter
-  tape-kept = good-after (tapeCall w lent) (KeptTape w) (call-kept w lent) cs (plain []) (empty-kept w)
+  tape-kept = good-after (tapeCall w lent) (KeptTape w) (call-kept w lent) cs (plain S) new-kept
 
-  open-plain : openCall w n .next ≡ tapeRecord w n (plain [])
+  new-plain : firstCall w n first .next ≡ tapeRecord w n (plain S)
   unfolding tapeRecord plain withSplit recordOf
-  open-plain = open-record
+  new-plain = new .recorded
 
-  -- from the newly opened order on, whose record is that of the empty tape
-  order-follows : Premise w lent cs → (orderAnswers w n lent cs ≡ tapeAnswers w lent cs) × ShowsTape lent w n (orderAfter w n lent cs) (tapeAfter w lent cs)
+  -- from the new order on, whose record is that of the tape
+  order-follows : Premise w n first lent cs
+      → (orderAnswers w n first lent cs ≡ tapeAnswers w n first lent cs) × ShowsTape lent w n (orderAfter w n first lent cs) (tapeAfter w n first lent cs)
   unfolding Premise orderAnswers orderAfter newOrder tapeAnswers tapeAfter plain
   order-follows h =
-      calls-follow (tapeCall w lent) (KeptTape w) (call-kept w lent) (orderCall lent) (HandsBack w lent) (ShowsTape lent w n) (call-step w n word digest lent)
-      cs (newOrder w n lent) (plain []) (record { kept = open-plain; roll = lent-shows w n lent }) (empty-kept w) h
+      calls-follow (tapeCall w lent) (KeptTape w) (call-kept w lent) (orderCall lent) (HandsBack w lent) (ShowsTape lent w n) (call-step w n (new .word) (new .digest) lent)
+      cs (newOrder w n first lent) (plain S) (record { kept = new-plain; roll = lent-shows w n S (new .short) lent }) new-kept h
 
-  pub corrected : Premise w lent cs → Corrected w n lent cs
-  unfolding tapeAnswers tapeAfter wholeBlocks plain
+  pub corrected : Premise w n first lent cs → Corrected w n first lent cs
+  unfolding tapeAnswers tapeAfter plain
   corrected h =
       record {
         agree = order-follows h .0;
@@ -209,13 +199,13 @@ module _ (w n : ℕ) (lent : Lent) (cs : List Call) (accepted : openCall w n .nu
             rw (order-follows h .0)
             (omega (
               arith,
-              counts (tapeCall w lent) (KeptTape w) (call-kept w lent) forwardCount backwardCount (λ (t : Tape). wholeBlocks w (t .bytes)) (call-count w word lent) cs
-                  (plain []) (empty-kept w),
-              zero-div (blockBytes (sizeOf w)),
+              counts (tapeCall w lent) (KeptTape w) (call-kept w lent) forwardCount backwardCount (λ (t : Tape). wholeBlocks w (t .bytes)) (call-count w (new .word) lent) cs
+                  (plain S) new-kept,
+              new .counted,
             ));
       }
 
   -- so 3, 8, 9 and 15 are never given
-  pub by-length : Premise w lent cs → allByLength (orderAnswers w n lent cs) ≡ true
+  pub by-length : Premise w n first lent cs → allByLength (orderAnswers w n first lent cs) ≡ true
   unfolding tapeAnswers
-  by-length h = ap allByLength (corrected h .agree) ∙ tape-by-length w lent cs (plain [])
+  by-length h = ap allByLength (corrected h .agree) ∙ tape-by-length w lent cs (plain S)

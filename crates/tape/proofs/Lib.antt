@@ -6,5 +6,6 @@ pub mod Orders
 pub mod OutOfTurn
 pub mod Unfinished
 pub mod Tapes
+pub mod First
 pub mod Corrected
 pub mod Receipts

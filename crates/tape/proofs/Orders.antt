@@ -15,6 +15,7 @@ use Rattle.runs.specs.Limits.{isDigestLength, limit}
 use Rattle.record.specs.declared.Record.{Record}
 use Rattle.record.specs.declared.Outcome.{Outcome}
 use Rattle.record.specs.Record.{recordOf, refused}
+use Rattle.record.proofs.Strings.{record-idle}
 use Rattle.append.specs.Append.{appendAccepted, appendCall}
 use Rattle.rewind.specs.Rewind.{startsOffBlock, keepsTooMuch, rewindCall}
 use Rattle.checkpoints.specs.Slots.{slotCount}

@@ -11,7 +11,6 @@ use Rattle.record.specs.declared.Record.{Record}
 use Rattle.record.specs.declared.Split.{Split}
 use Rattle.record.specs.Split.{notBegun}
 use Rattle.record.specs.Record.{sound, withSplit, recordOf}
-use Rattle.record.specs.Open.{openCall}
 use Rattle.split_rewind.specs.OneRewind.{afterSteps, StepsAccepted}
 use Rattle.split_rewind.proofs.OneRewind.{Arrays, begin-is, x-sound, as-before}
 use Rattle.whole.specs.Whole.{wholeAnswer, wholeOutput}
@@ -21,10 +20,12 @@ use Rattle.close.proofs.Unfinished.{same-answer-unfinished, same-output-unfinis
 use Rattle.tape.specs.Tape.{Lent, Tape}
 use Rattle.tape.specs.TapeSteps.{tapeSplit, tapeRecord}
 use Rattle.tape.specs.Calls.{Call}
+use Rattle.tape.specs.First.{First, firstCall}
 use Rattle.tape.specs.Corrected.{orderAfter, tapeAfter, Premise}
 use Rattle.tape.proofs.Steps.{sound-is}
 use Rattle.tape.proofs.Tapes.{tape-sound}
-use Rattle.tape.proofs.Corrected.{KeptTape, open-accepted, tape-kept, corrected}
+use Rattle.tape.proofs.First.{new-order}
+use Rattle.tape.proofs.Corrected.{KeptTape, tape-kept, corrected}
 
 -- Close on the record of a tape, and Whole on its bytes, answer and write the same
 tape-receipt : (w n : ℕ) (t : Tape) → isWordSize w ≡ true → isDigestLength w n ≡ true → KeptTape w t → (last e : ℕ) (output : List ℕ)
@@ -43,14 +44,14 @@ tape-receipt w n t word digest kept last e output =
     )
 
 -- the buyer's sentence: after the calls, finished or not
-pub corrected-receipt : (w n : ℕ) (lent : Lent) (cs : List Call) → openCall w n .number ≡ 0 → Premise w lent cs → (last e : ℕ) (output : List ℕ)
-    → (closeAnswer (orderAfter w n lent cs .kept) last e (length output) ≡ wholeAnswer w n (length (tapeAfter w lent cs .bytes)) last e (length output))
-    × (closeOutput (orderAfter w n lent cs .kept) last e output ≡ wholeOutput w n (tapeAfter w lent cs .bytes) last e output)
-corrected-receipt w n lent cs accepted h last e output =
-    let ok : (isWordSize w ≡ true) × (isDigestLength w n ≡ true) = open-accepted w n accepted in
-    let same = tape-receipt w n (tapeAfter w lent cs) (ok .0) (ok .1) (tape-kept w n lent cs accepted) last e output in (
-      ap (λ (r : Record). closeAnswer r last e (length output)) (corrected w n lent cs accepted h .remains) ∙ same .0,
-      ap (λ (r : Record). closeOutput r last e output) (corrected w n lent cs accepted h .remains) ∙ same .1,
+pub corrected-receipt : (w n : ℕ) (first : First) (lent : Lent) (cs : List Call) → firstCall w n first .number ≡ 0 → Premise w n first lent cs → (last e : ℕ) (output : List ℕ)
+    → (closeAnswer (orderAfter w n first lent cs .kept) last e (length output) ≡ wholeAnswer w n (length (tapeAfter w n first lent cs .bytes)) last e (length output))
+    × (closeOutput (orderAfter w n first lent cs .kept) last e output ≡ wholeOutput w n (tapeAfter w n first lent cs .bytes) last e output)
+corrected-receipt w n first lent cs accepted h last e output =
+    let new = new-order w n first accepted in
+    let same = tape-receipt w n (tapeAfter w n first lent cs) (new .word) (new .digest) (tape-kept w n first lent cs accepted) last e output in (
+      ap (λ (r : Record). closeAnswer r last e (length output)) (corrected w n first lent cs accepted h .remains) ∙ same .0,
+      ap (λ (r : Record). closeOutput r last e output) (corrected w n first lent cs accepted h .remains) ∙ same .1,
     )
 
 -- for any record: after a begin and hand-backs that are accepted, Close answers and writes what it did before them

@@ -17,7 +17,7 @@ use Rattle.record.specs.declared.Outcome.{Outcome}
 use Rattle.record.specs.Split.{notBegun}
 use Rattle.record.specs.Record.{heldLength, sound, isBegun, withSplit, recordOf, refused, stepped}
 use Rattle.record.proofs.Begun.{not-begun-sound, with-sound}
-use Rattle.record.proofs.Strings.{held-record}
+use Rattle.record.proofs.Strings.{held-record, record-idle}
 use Rattle.append.specs.Append.{appendCall}
 use Rattle.rewind.specs.Rewind.{keepsTooMuch, heldDiffers, rewindCall}
 use Rattle.split_rewind.specs.Begin.{begun, beginCall}
@@ -35,7 +35,7 @@ use Rattle.tape.specs.TapeSteps.{taken, moved, tapeBegin, tapeHandBack, 
 use Rattle.tape.specs.Calls.{Call, Append, Rewind, Begin, HandBack, End, Abandon, Order, given, orderCall, tapeCall, HandsBack}
 use Rattle.tape.specs.TapeRoll.{TapeRoll, RollShows}
 use Rattle.tape.proofs.Simulation.{Follows, choose}
-use Rattle.tape.proofs.Steps.{Kept, sound-is, idle-is}
+use Rattle.tape.proofs.Steps.{Kept, sound-is}
 use Rattle.tape.proofs.Orders.{Shows, append-alone, rewind-alone, append-with, rewind-with, cut-shows}
 use Rattle.tape.proofs.OutOfTurn.{append-17, append-roll-17, appended-17, rewind-17, rewind-roll-17, rewound-17, begin-17, hand-back-17, end-17, end-roll-17, ended-17, abandon-17}
 use Rattle.tape.proofs.Unfinished.{sound-y, begun-y, end-much, end-cut, block-more, none-yet}
@@ -81,7 +81,7 @@ module _ (w : ℕ) (word : isWordSize w ≡ true) (n : ℕ) (digest : isDigestLe
     ok = sound-is w word n digest s kept
 
     idle : isBegun R ≡ false
-    idle = idle-is w word n digest s kept
+    idle = record-idle w n s
 
     -- the tape with none begun, and with k blocks handed back
     abbrev idleTape : ℕ → Tape

@@ -35,7 +35,7 @@ use Rattle.record.specs.Record.{heldOf, heldBytes, sound, isBegun, withSplit, r
 use Rattle.record.proofs.Lists.{all-zero}
 use Rattle.record.proofs.Sound.{chain-below}
 use Rattle.record.proofs.Begun.{one-begun-sound, with-sound}
-use Rattle.record.proofs.Strings.{held-record, filled-zero}
+use Rattle.record.proofs.Strings.{held-record, record-idle, filled-zero}
 use Rattle.rewind.specs.Rewind.{keepsTooMuch, reached}
 use Rattle.rewind.proofs.Lengths.{OnBlock, keeps-few}
 use Rattle.split_rewind.specs.Begin.{begun}
@@ -46,7 +46,7 @@ use Rattle.split_rewind.proofs.Lengths.{before-is, blocks-on}
 use Rattle.split_rewind.proofs.OneRewind.{Arrays, Handed, end-is, wound}
 use Rattle.tape.specs.Tape.{wholeBlocks}
 use Rattle.tape.specs.TapeSteps.{blockAfter, handedLast, tapeSplit}
-use Rattle.tape.proofs.Steps.{Kept, sound-is, idle-is, reached-is, last-bytes, cut-next}
+use Rattle.tape.proofs.Steps.{Kept, sound-is, reached-is, last-bytes, cut-next}
 
 module _ (w : ℕ) (word : isWordSize w ≡ true) (n : ℕ) (digest : isDigestLength w n ≡ true) (s : List ℕ) (kept : Kept s) where
   abbrev Z : WordSize
@@ -75,7 +75,7 @@ module _ (w : ℕ) (word : isWordSize w ≡ true) (n : ℕ) (digest : isDigestLe
   ok = sound-is w word n digest s kept
 
   idle : isBegun R ≡ false
-  idle = idle-is w word n digest s kept
+  idle = record-idle w n s
 
   -- a chain over whole blocks of s
   chain-of : (bs : List (List ℕ)) → Chain Z (forwards Z bs O)

@@ -19,7 +19,7 @@ pub const MALFORMED: u32 = 14;
 pub const BAD_ROLL: u32 = 15;
 pub const FULL_ROLL: u32 = 16;
 pub const OUT_OF_TURN: u32 = 17;
-pub const BAD_TAG_LENGTH: u32 = 18;
+pub const NO_WHOLE_BYTES: u32 = 18;
 
 /// The most bytes of a message or of an order, and the most bits of a message.
 pub const MOST_BYTES: u64 = 1 << 40;

@@ -7,7 +7,7 @@ mod record;
 mod tag_calls;
 mod vector_file;
 
-use compare::{at_both_word_sizes, hand_back_all, places, Random, Record, ACCEPTED, BAD_TAG_LENGTH, MOST_BYTES};
+use compare::{at_both_word_sizes, hand_back_all, places, Random, Record, ACCEPTED, MOST_BYTES, NO_WHOLE_BYTES};
 use forged::{forged_record, sound_records, unsound};
 use lsh_ref::Word;
 use record::record_of;
@@ -204,7 +204,7 @@ fn other_digest_lengths<W: Word>() {
         let (key, message) = (calls.some_bytes(), calls.some_bytes());
         calls.set(compare::open(w, n).next);
         assert_eq!(calls.append(&message), ACCEPTED);
-        try_finish(&mut calls, &key, &Err(BAD_TAG_LENGTH));
+        try_finish(&mut calls, &key, &Err(NO_WHOLE_BYTES));
     }
     calls.end("other digest lengths");
 }

@@ -7,10 +7,10 @@ use Rattle.receipt.proofs.files.Statement.{statement}
 use Rattle.receipt.proofs.files.Tie as tie
 
 abbrev Inv-loop : tie.InvT-loop
-Inv-loop a opened list₀ end count₀ i₀ list count i = length list ≡ length list₀
+Inv-loop a opened key list₀ end count₀ i₀ list count i = length list ≡ length list₀
 
 abbrev μ-loop : tie.MeasureT-loop
-μ-loop a opened list₀ end count₀ i₀ list count i = end - i
+μ-loop a opened key list₀ end count₀ i₀ list count i = end - i
 
 pub files-spec : {M : Type 1} → statement M
 files-spec =

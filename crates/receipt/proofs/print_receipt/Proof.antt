@@ -13,6 +13,7 @@ print-receipt-spec =
     (λ c. search needs)
     (λ c κs. search needs)
     (λ c κs. search needs)
+    (λ c. omega arith)
     (λ c. search needs)
     (λ c. search needs)
     (λ c. omega arith)

@@ -4,7 +4,7 @@
 use crate::hmac;
 use crate::record::{record_after, record_line, set_line};
 use compare::{
-    hex, Outcome, Random, Record, Sameness, Script, ACCEPTED, BAD_TAG_LENGTH, BAD_WORD_SIZE, DIGEST_PLACE, MOST_BYTES,
+    hex, Outcome, Random, Record, Sameness, Script, ACCEPTED, BAD_WORD_SIZE, DIGEST_PLACE, MOST_BYTES, NO_WHOLE_BYTES,
     RECEIPT_BYTES,
 };
 use lsh_ref::Word;
@@ -29,25 +29,28 @@ pub type Answer<T> = Result<T, u32>;
 
 // ---- what has to be answered ----
 
-/// By the numbers alone.
-fn right_sizes(w: u64, n: u64) -> Answer<()> {
-    match (w, n) {
-        (32 | 64, n) if n == 0 || n > 8 * w => Err(2),
-        (32 | 64, n) if !n.is_multiple_of(8) => Err(BAD_TAG_LENGTH),
-        (32 | 64, _) => Ok(()),
-        _ => Err(BAD_WORD_SIZE),
+/// By w and n alone.
+fn right_numbers(w: u64, n: u64) -> Answer<()> {
+    if w != 32 && w != 64 {
+        Err(BAD_WORD_SIZE)
+    } else if n == 0 || n > 8 * w {
+        Err(2)
+    } else if !n.is_multiple_of(8) {
+        Err(NO_WHOLE_BYTES)
+    } else {
+        Ok(())
     }
 }
 
 /// The tag, for an output that has room for it.
 pub fn right_tag(given: &Given) -> Answer<Vec<u8>> {
     let Given { w, n, key, message } = *given;
-    right_sizes(w, n).map(|()| hmac::tag(w, n, key, message))
+    right_numbers(w, n).map(|()| hmac::tag(w, n, key, message))
 }
 
 fn right_start(given: &Given) -> Outcome {
     let Given { w, n, key, .. } = *given;
-    match right_sizes(w, n) {
+    match right_numbers(w, n) {
         Ok(()) => right_append(&compare::open(w, n).next, &hmac::inner_block(w, n, key)),
         Err(number) => Outcome::refused(number, &no_record()),
     }
@@ -76,7 +79,7 @@ fn longer<W: Word>(r: &Record, piece: &[u8]) -> Record {
 pub fn right_finish(r: &Record, key: &[u8]) -> Answer<Vec<u8>> {
     let mut receipt = [0; RECEIPT_BYTES];
     match compare::close(*r, 0, 0, &mut receipt) {
-        ACCEPTED if !r.n.is_multiple_of(8) => Err(BAD_TAG_LENGTH),
+        ACCEPTED if !r.n.is_multiple_of(8) => Err(NO_WHOLE_BYTES),
         ACCEPTED => Ok(hmac::tag_of_digest(r.w, r.n, key, &receipt[DIGEST_PLACE..][..r.n as usize / 8])),
         number => Err(number),
     }

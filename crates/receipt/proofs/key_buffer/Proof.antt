@@ -1,0 +1,11 @@
+-- `receipt::key_buffer` meets its contract. Assumes nothing.
+use mathlib.Core.Path.{sym}
+use Prim.Native.Nat.{ℕ}
+use lib.ListN.{length-replicate}
+use Rattle.receipt.specs.Sizes.{keyRoom}
+use Rattle.receipt.proofs.key_buffer.Statement.{statement}
+use Rattle.receipt.proofs.key_buffer.Tie as tie
+
+pub key-buffer-spec : {M : Type 1} → statement M
+unfolding keyRoom
+key-buffer-spec = tie.close (tie.spec (λ c. sym (length-replicate {A = ℕ} keyRoom 0)))

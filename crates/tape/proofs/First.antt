@@ -1,0 +1,75 @@
+-- A new order whose first call was accepted: its record is that of the tape, which has no bytes yet or one block.
+-- Assumes nothing.
+use mathlib.Core.Path.{_≡_, refl, sym, ap, _∙_}
+use mathlib.Core.Bool.{Bool, true, false, not, cond}
+use mathlib.Core.List.{List, []}
+use Prim.Native.Nat.{ℕ, _/_, _≤_, zero-le}
+use native.Mathlib.Nat.{zero-div, div-self}
+use native.Mathlib.Omega.{arith}
+use lib.ListN.{length}
+use Rattle.lsh.specs.WordSize.{isWordSize, sizeOf, blockBytes}
+use Rattle.lsh.proofs.Figures.{block-some}
+use Rattle.runs.specs.Limits.{isDigestLength, limit}
+use Rattle.record.specs.declared.Outcome.{Outcome}
+use Rattle.record.specs.Record.{zeros, recordOf, refused}
+use Rattle.record.specs.Open.{opened, openCall}
+use Rattle.record.proofs.Strings.{open-next, record-none}
+use Rattle.hmac.proofs.Keys.{inner-bytes}
+use Rattle.tag.proofs.Started.{start-accepted, started-record, started-length, started-count}
+use Rattle.tape.specs.Tape.{wholeBlocks}
+use Rattle.tape.specs.First.{First, Opened, Started, firstCall, firstBytes}
+use Rattle.tape.proofs.Steps.{Kept}
+
+pub record NewOrder (w n : ℕ) (o : Outcome) (s : List ℕ) : Type 0 where
+  pub word : isWordSize w ≡ true
+  pub digest : isDigestLength w n ≡ true
+  pub recorded : o .next ≡ recordOf w n s
+  pub kept : Kept s
+  pub counted : o .count ≡ wholeBlocks w s
+  pub short : wholeBlocks w s ≤ 1
+
+open-accepted : (w n : ℕ) → openCall w n .number ≡ 0 → (isWordSize w ≡ true) × (isDigestLength w n ≡ true)
+unfolding openCall refused
+open-accepted w n e = tests (isWordSize w) (isDigestLength w n) (record { number = 0; count = 0; next = opened w n }) e
+  where
+    tests : (a b : Bool) (o : Outcome) → cond (not a) (refused 1 zeros) (cond (not b) (refused 2 zeros) o) .number ≡ 0 → (a ≡ true) × (b ≡ true)
+    tests true true o e = (refl, refl)
+    tests true false o e = absurd (omega arith)
+    tests false b o e = absurd (omega arith)
+
+open-new : (w n : ℕ) → openCall w n .number ≡ 0 → NewOrder w n (openCall w n) []
+unfolding openCall wholeBlocks
+open-new w n e =
+    let ok = open-accepted w n e in
+    let none : 0 / blockBytes (sizeOf w) ≡ 0 = zero-div (blockBytes (sizeOf w)) in
+    record {
+      word = ok .0;
+      digest = ok .1;
+      recorded = open-next w n (ok .0) (ok .1) ∙ sym (record-none w n);
+      kept = record { few = zero-le; bytes = λ i. omega arith };
+      counted = rw (ok .0, ok .1) (sym none);
+      short = omega (arith, none);
+    }
+
+start-new : (w n : ℕ) (key : List ℕ) → firstCall w n (Started key) .number ≡ 0 → NewOrder w n (firstCall w n (Started key)) (firstBytes w n (Started key))
+unfolding wholeBlocks
+start-new w n key e =
+    let ok = start-accepted w n key e in
+    let one : length (firstBytes w n (Started key)) / blockBytes (sizeOf w) ≡ 1 =
+    ap (λ (k : ℕ). k / blockBytes (sizeOf w)) (started-length w n key e) ∙ div-self (block-some w) in
+    record {
+      word = ok .wordSize;
+      digest = ok .digestLength;
+      recorded = started-record w n key e;
+      kept =
+          record {
+            few = omega (arith, started-length w n key e, ok .within);
+            bytes = inner-bytes w n (ok .wordSize) (ok .digestLength) (ok .bytewise) key;
+          };
+      counted = started-count w n key e ∙ sym one;
+      short = omega (arith, one);
+    }
+
+pub new-order : (w n : ℕ) (first : First) → firstCall w n first .number ≡ 0 → NewOrder w n (firstCall w n first) (firstBytes w n first)
+new-order w n Opened e = open-new w n e
+new-order w n (Started key) e = start-new w n key e
