@@ -3,3 +3,5 @@ pub mod Answers
 pub mod Started
 pub mod Finished
 pub mod Pieces
+pub mod Unfinished
+pub mod Checked

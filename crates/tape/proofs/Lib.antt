@@ -9,3 +9,4 @@ pub mod Tapes
 pub mod First
 pub mod Corrected
 pub mod Receipts
+pub mod Tags

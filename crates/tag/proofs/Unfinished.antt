@@ -1,0 +1,27 @@
+-- The finish does not depend on how far a split rewind is.
+-- Assumes nothing.
+use mathlib.Core.Path.{_≡_, ap}
+use mathlib.Core.Bool.{true, cond}
+use mathlib.Core.List.{List, _++_}
+use Prim.Native.Nat.{ℕ}
+use lib.Dec.{eqb}
+use lib.ListN.{length, drop}
+use Rattle.lsh.specs.Bits.{bytesOfBits}
+use Rattle.record.specs.declared.Record.{Record}
+use Rattle.record.specs.declared.Split.{Split}
+use Rattle.record.specs.Record.{sound, heldBytes, withSplit}
+use Rattle.close.specs.Close.{closedDigest}
+use Rattle.hmac.specs.Hmac.{tagOf}
+use Rattle.tag.specs.KeyAnswer.{tagBytes}
+use Rattle.tag.specs.Finish.{finishAnswer, finishOutput}
+
+module _ (r : Record) (s : Split) (ok : sound r ≡ true) (still : sound (withSplit r s) ≡ true) where
+  pub finish-answer-unfinished : (keyLength size : ℕ) → finishAnswer (withSplit r s) keyLength size ≡ finishAnswer r keyLength size
+  unfolding finishAnswer withSplit
+  finish-answer-unfinished keyLength size = rw (ok, still)
+
+  pub finish-output-unfinished : (key output : List ℕ) → finishOutput (withSplit r s) key output ≡ finishOutput r key output
+  unfolding finishOutput closedDigest heldBytes withSplit
+  finish-output-unfinished key output =
+      ap (λ (a : ℕ). cond (eqb a 0) (tagOf (r .w) (r .n) key (bytesOfBits (closedDigest r 0 0)) ++ drop (tagBytes (r .n)) output) output)
+      (finish-answer-unfinished (length key) (length output))

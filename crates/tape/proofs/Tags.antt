@@ -1,0 +1,84 @@
+-- A corrected order that began with a key has the tag of the message that remains, also while a split rewind is unfinished.
+-- Assumes nothing.
+use mathlib.Core.Path.{_≡_, refl, sym, ap, _∙_, subst}
+use mathlib.Core.Bool.{true, cond}
+use mathlib.Core.List.{List, _++_}
+use Prim.Native.Nat.{ℕ}
+use native.Mathlib.Omega.{arith}
+use lib.ListN.{length, drop, length-append}
+use lib.Seq.{drop-at}
+use Rattle.lsh.proofs.Bytes.{Bytes, bytes-drop}
+use Rattle.record.specs.declared.Record.{Record}
+use Rattle.record.specs.declared.Split.{Split}
+use Rattle.record.specs.Split.{notBegun}
+use Rattle.record.specs.Record.{sound, withSplit, recordOf}
+use Rattle.hmac.specs.Hmac.{innerKey}
+use Rattle.tag.specs.Tag.{tagAnswer, tagOutput}
+use Rattle.tag.specs.Start.{startCall}
+use Rattle.tag.specs.Finish.{finishAnswer, finishOutput}
+use Rattle.tag.proofs.Answers.{Keyed}
+use Rattle.tag.proofs.Started.{start-accepted, started-length}
+use Rattle.tag.proofs.Finished.{same-answer, same-output}
+use Rattle.tag.proofs.Unfinished.{finish-answer-unfinished, finish-output-unfinished}
+use Rattle.tape.specs.Tape.{Lent, Tape}
+use Rattle.tape.specs.TapeSteps.{tapeSplit, tapeRecord}
+use Rattle.tape.specs.Calls.{Call}
+use Rattle.tape.specs.First.{Started}
+use Rattle.tape.specs.Corrected.{orderAfter, tapeAfter, Premise}
+use Rattle.tape.proofs.Steps.{Kept, sound-is}
+use Rattle.tape.proofs.Tapes.{tape-sound}
+use Rattle.tape.proofs.Corrected.{KeptTape, tape-kept, corrected}
+
+module _ (w n : ℕ) (key : List ℕ) (lent : Lent) (cs : List Call) (accepted : startCall w n key .number ≡ 0) where
+  abbrev T : Tape
+  T = tapeAfter w n (Started key) lent cs
+
+  abbrev split : Split
+  split = cond (T .begun) (tapeSplit w n (T .bytes) (T .number)) notBegun
+
+  kept : KeptTape w T
+  kept = tape-kept w n (Started key) lent cs accepted
+
+  first : Keyed w n (length key) 0
+  first = start-accepted w n key accepted
+
+  ok : sound (recordOf w n (T .bytes)) ≡ true
+  ok = sound-is w (first .wordSize) n (first .digestLength) (T .bytes) (kept .bytes)
+
+  still : sound (withSplit (recordOf w n (T .bytes)) split) ≡ true
+  unfolding tapeRecord
+  still = tape-sound w (first .wordSize) n (first .digestLength) (T .bytes) (kept .bytes) (T .begun) (T .number) (kept .upTo)
+
+  -- the message m is what the tape has after the key's inner block
+  module _ (m : List ℕ) (after : T .bytes ≡ innerKey w n key ++ m) where
+    both : Kept (innerKey w n key ++ m)
+    both = subst Kept after (kept .bytes)
+
+    keyed : Keyed w n (length key) (length m)
+    keyed =
+        record {
+          wordSize = first .wordSize;
+          digestLength = first .digestLength;
+          bytewise = first .bytewise;
+          short = first .short;
+          within = omega (arith, both .few, length-append (innerKey w n key) m, started-length w n key accepted);
+        }
+
+    message-bytes : Bytes m
+    message-bytes = subst Bytes (drop-at (innerKey w n key) m _ refl) (bytes-drop (length (innerKey w n key)) (innerKey w n key ++ m) (both .bytes))
+
+    pub corrected-tag : Premise w n (Started key) lent cs → (output : List ℕ)
+        → (finishAnswer (orderAfter w n (Started key) lent cs .kept) (length key) (length output) ≡ tagAnswer w n (length key) (length m) (length output))
+        × (finishOutput (orderAfter w n (Started key) lent cs .kept) key output ≡ tagOutput w n key m output)
+    unfolding tapeRecord
+    corrected-tag h output =
+        let remains = corrected w n (Started key) lent cs accepted h .remains in (
+          ap (λ (r : Record). finishAnswer r (length key) (length output)) remains
+              ∙ finish-answer-unfinished (recordOf w n (T .bytes)) split ok still (length key) (length output)
+              ∙ ap (λ (s : List ℕ). finishAnswer (recordOf w n s) (length key) (length output)) after
+              ∙ same-answer w n key m keyed (length output),
+          ap (λ (r : Record). finishOutput r key output) remains
+              ∙ finish-output-unfinished (recordOf w n (T .bytes)) split ok still key output
+              ∙ ap (λ (s : List ℕ). finishOutput (recordOf w n s) key output) after
+              ∙ same-output w n key m keyed message-bytes output,
+        )
