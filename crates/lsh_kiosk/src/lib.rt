@@ -168,13 +168,7 @@ pub extern "C" fn lsh_tag_finish(r: Record, key: &[u8], output: &mut [u8]) -> u3
 }
 
 #[no_mangle]
-pub extern "C" fn lsh_tag_check(
-    w: u64,
-    n: u64,
-    key: &[u8],
-    message: &[u8],
-    tag: &[u8],
-) -> Sameness
+pub extern "C" fn lsh_tag_check(w: u64, n: u64, key: &[u8], message: &[u8], tag: &[u8]) -> Sameness
     ensures { λ r. ⌜ r ≡ checkCall w n (now (key .entry)) (now (message .entry)) (now (tag .entry)) ⌝ }
 {
     tag::check(w, n, key, message, tag)
