@@ -1,5 +1,6 @@
 -- Laws of Close.
 pub mod HeldBytes
+pub mod Closed
 pub mod Answers
 pub mod Messages
 pub mod Unfinished

@@ -1,14 +1,13 @@
 // Close: the receipt of the bytes of a record.
 ghost use mathlib.Core.Path.{_≡_};
 ghost use mathlib.Core.Bool.{true};
-ghost use mathlib.Core.List.{_∷_, _++_};
-ghost use Prim.Native.Nat.{_+_, _-_, _/_};
-ghost use lib.ListN.{length, take, replicate};
-ghost use Rattle.lsh.specs.WordSize.{sizeOf, blockBytes};
-ghost use Rattle.lsh.specs.Block.{forwards};
+ghost use Prim.Native.Nat.{_+_, _-_, _/_, _%_, _^_, _≤_};
+ghost use lib.ListN.{length, take};
+ghost use Rattle.lsh.specs.WordSize.{sizeOf};
+ghost use Rattle.lsh.specs.Block.{Chain};
 ghost use Rattle.lsh.specs.Bits.{bytesOfBits};
-ghost use Rattle.lsh.specs.Padding.{blocksOf};
-ghost use Rattle.record.specs.Record.{sound, heldBytes};
+ghost use Rattle.lsh.specs.Hash.{digest};
+ghost use Rattle.record.specs.Record.{sound};
 ghost use Rattle.close.specs.Close.{closeAnswer, closedDigest, closeOutput};
 use runs::LONGEST_BLOCK;
 
@@ -24,7 +23,7 @@ pub fn close(r: record::Record, last: u8, e: u64, output: &mut [u8]) -> u32
     let w = r.w;
     let n = r.n;
     let bits = 8 * r.total + e;
-    let t = final_chain(r, finalization::pad_byte(last, e as u32));
+    let t = final_chain(r, last, e as u32);
     finalization::write_receipt(w, n, t, bits, output);
     0
 }
@@ -36,7 +35,7 @@ pub fn digest_bytes(r: record::Record) -> [u8; LONGEST_BLOCK]
 {
     let w = r.w;
     let n = r.n;
-    let t = final_chain(r, finalization::PAD);
+    let t = final_chain(r, 0, 0);
     finalization::digest_bytes(w, n, t)
 }
 
@@ -50,15 +49,16 @@ fn answer(r: record::Record, last: u8, e: u64, size: usize) -> u32
     finalization::end_answer(last, e, size)
 }
 
-// The chain after the last block: the bytes held, padded from the byte pad on.
-fn final_chain(r: record::Record, pad: u8) -> [u64; 16]
-    requires { ⌜ sound r ≡ true ⌝ }
-    ensures { λ t. ⌜ t ≡ forwards (sizeOf (r .w)) (blocksOf (sizeOf (r .w)) (heldBytes r ++ pad ∷ replicate (blockBytes (sizeOf (r .w)) - 1 - length (heldBytes r)) 0)) (r .chain) ⌝ }
+// The chain after the last block, which is the bytes held and the top e bits of the last byte, padded.
+fn final_chain(r: record::Record, last: u8, e: u32) -> [u64; 16]
+    requires { ⌜ (sound r ≡ true) × (e ≤ 7) × (last % 2 ^ (8 - e) ≡ 0) ⌝ }
+    ensures { λ t. ⌜ Chain (sizeOf (r .w)) t × (digest (sizeOf (r .w)) (r .n) t ≡ closedDigest r last e) ⌝ }
 {
     let w = r.w;
     let total = r.total;
     let chain = r.chain;
     let held = r.held;
+    let pad = finalization::pad_byte(last, e);
     let at = record::held_length(w, total);
     finalization::last_chain(w, chain, &held[..at], pad)
 }

@@ -3,7 +3,7 @@
 use mathlib.Core.Path.{_≡_, sym, ap, _∙_}
 use mathlib.Core.Bool.{Bool, true}
 use mathlib.Core.List.{List, [], _∷_, _++_, append-nil, append-assoc}
-use Prim.Native.Nat.{ℕ, _+_, _-_, _/_, _%_, _≤_, _<_}
+use Prim.Native.Nat.{ℕ, _+_, _-_, _/_, _%_, _<_}
 use native.Mathlib.Nat.{zero-mod}
 use native.Mathlib.Omega.{arith}
 use lib.ListN.{length, replicate}
@@ -11,7 +11,7 @@ use Rattle.lsh.specs.WordSize.{WordSize, isWordSize, sizeOf, blockBytes}
 use Rattle.lsh.specs.Block.{forwards}
 use Rattle.lsh.specs.Opening.{opening}
 use Rattle.lsh.specs.Bits.{bitsOf, bytesOfBits}
-use Rattle.lsh.specs.Padding.{padded, blocksOf, restOf}
+use Rattle.lsh.specs.Padding.{padded, blocksOf}
 use Rattle.lsh.specs.Hash.{digest, hash, lsh}
 use Rattle.lsh.proofs.Figures.{block-some}
 use Rattle.lsh.proofs.Bytes.{Bytes, bytes-append}

@@ -8,9 +8,9 @@ use native.Mathlib.Nat.{mod-self}
 use native.Mathlib.Omega.{arith}
 use borrow.Author.Tests.{lt-ltb, le-ltb, ltb-false}
 use lib.Dec.{ltb}
-use lib.ListN.{length, take, replicate, length-replicate}
+use lib.ListN.{length, take, replicate}
 use lib.Seq.{length-take-le, getD-take, take-append-add}
-use Rattle.lsh.specs.Tabulate.{at, tabulate}
+use Rattle.lsh.specs.Tabulate.{at}
 use Rattle.lsh.specs.Word.{xor}
 use Rattle.lsh.specs.WordSize.{WordSize, isWordSize, sizeOf, blockBytes}
 use Rattle.lsh.specs.Block.{forwards}
@@ -18,7 +18,7 @@ use Rattle.lsh.specs.Opening.{opening}
 use Rattle.lsh.specs.Padding.{blocksOf}
 use Rattle.lsh.proofs.Figures.{bits-are}
 use Rattle.lsh.proofs.Word.{xor-lt}
-use Rattle.lsh.proofs.Tabulate.{length-tabulate, at-tabulate, tabulate-ext, tabulate-cong, tabulate-all}
+use Rattle.lsh.proofs.Tabulate.{length-tabulate, at-tabulate, tabulate-ext, tabulate-all}
 use Rattle.lsh.proofs.Bytes.{Bytes}
 use Rattle.runs.specs.Limits.{longestBlock, isDigestLength}
 use Rattle.runs.specs.ZeroFilled.{zeroFilled}

@@ -11,7 +11,7 @@ ghost use Rattle.lsh.specs.Opening.{opening};
 ghost use Rattle.lsh.specs.Bits.{bytesOfBits};
 ghost use Rattle.lsh.specs.Padding.{blocksOf};
 ghost use Rattle.lsh.specs.Hash.{digest};
-ghost use Rattle.runs.specs.Limits.{longestDigest, isDigestLength};
+ghost use Rattle.runs.specs.Limits.{isDigestLength};
 ghost use Rattle.hmac.specs.Hmac.{keyBlock, xorEach, tagOf, hmac};
 use runs::LONGEST_BLOCK;
 

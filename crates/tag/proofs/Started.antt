@@ -1,7 +1,7 @@
 -- The record of a newly started tag: that of the key's inner block.
 -- Assumes nothing.
 use mathlib.Core.Path.{_≡_, refl, sym, ap, _∙_}
-use mathlib.Core.Bool.{Bool, true, false, cond, false≢true}
+use mathlib.Core.Bool.{Bool, true, false, cond}
 use mathlib.Core.List.{List, []}
 use Prim.Native.Nat.{ℕ, zero-le}
 use native.Mathlib.Nat.{zero-add, zero-div, div-self}
@@ -11,7 +11,6 @@ use lib.ListN.{length}
 use Rattle.lsh.specs.WordSize.{isWordSize, sizeOf, blockBytes}
 use Rattle.lsh.proofs.Figures.{block-some}
 use Rattle.runs.specs.Limits.{isDigestLength}
-use Rattle.record.specs.declared.Outcome.{Outcome}
 use Rattle.record.specs.Record.{sound, zeros, recordOf, refused}
 use Rattle.record.specs.Open.{opened}
 use Rattle.record.proofs.Strings.{record-sound, record-none}

@@ -3,25 +3,21 @@
 -- are those run backward and the whole blocks that remain.
 -- Assumes nothing.
 use mathlib.Core.Path.{_≡_, refl, sym, ap, _∙_, subst}
-use mathlib.Core.Bool.{Bool, true, false, not, cond}
+use mathlib.Core.Bool.{true, false, not}
 use mathlib.Core.List.{List, [], _∷_, _++_}
-use Prim.Native.Nat.{ℕ, _+_, _-_, _/_, _≤_, zero-le}
-use native.Mathlib.Nat.{zero-div}
+use Prim.Native.Nat.{ℕ, _+_, _-_, _≤_, zero-le}
 use native.Mathlib.Omega.{arith}
 use lib.Dec.{eqb, ltb}
 use lib.ListN.{length}
 use Rattle.lsh.specs.WordSize.{isWordSize, sizeOf, blockBytes}
 use Rattle.runs.specs.Limits.{isDigestLength, limit}
 use Rattle.record.specs.declared.Record.{Record}
-use Rattle.record.specs.declared.Outcome.{Outcome}
-use Rattle.record.specs.Record.{heldLength, zeros, recordOf, withSplit, refused}
-use Rattle.record.specs.Open.{opened, openCall}
-use Rattle.record.proofs.Strings.{record-none}
+use Rattle.record.specs.Record.{heldLength, recordOf, withSplit}
 use Rattle.rewind.specs.Rewind.{startsOffBlock, keepsTooMuch}
 use Rattle.rewind.proofs.Lengths.{OnBlock, keeps-few}
 use Rattle.split_rewind.specs.HandBack.{noBlock}
 use Rattle.split_rewind.proofs.Lengths.{a-block, blocks-on}
-use Rattle.checkpoints.specs.Roll.{newRoll, spacing, checkpoints}
+use Rattle.checkpoints.specs.Roll.{newRoll, checkpoints}
 use Rattle.checkpoints.proofs.Form.{new-size, new-links, new-shown, new-roll, is-roll-of}
 use Rattle.tape.specs.Sequence.{Given, answers}
 use Rattle.tape.specs.Tape.{Lent, NoRoll, Roll, Tape, plain, wholeBlocks, tooManyBlocks, stays, plainly, tapeAppend, tapeCut, tapeRewind}

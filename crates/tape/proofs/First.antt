@@ -9,7 +9,7 @@ use native.Mathlib.Omega.{arith}
 use lib.ListN.{length}
 use Rattle.lsh.specs.WordSize.{isWordSize, sizeOf, blockBytes}
 use Rattle.lsh.proofs.Figures.{block-some}
-use Rattle.runs.specs.Limits.{isDigestLength, limit}
+use Rattle.runs.specs.Limits.{isDigestLength}
 use Rattle.record.specs.declared.Outcome.{Outcome}
 use Rattle.record.specs.Record.{zeros, recordOf, refused}
 use Rattle.record.specs.Open.{opened, openCall}

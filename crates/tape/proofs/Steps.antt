@@ -25,7 +25,7 @@ use Rattle.equal.proofs.Equal.{equal-self}
 use Rattle.record.specs.declared.Record.{Record}
 use Rattle.record.specs.declared.Outcome.{Outcome}
 use Rattle.record.specs.Split.{notBegun}
-use Rattle.record.specs.Record.{sound, isBegun, heldOf, recordOf, refused}
+use Rattle.record.specs.Record.{sound, heldOf, recordOf, refused}
 use Rattle.record.proofs.Strings.{held-record, record-sound, record-idle}
 use Rattle.append.specs.Append.{appendAccepted}
 use Rattle.append.proofs.Joins.{append-record}

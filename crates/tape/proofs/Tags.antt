@@ -1,11 +1,11 @@
 -- A corrected order that began with a key has the tag of the message that remains, also while a split rewind is unfinished.
 -- Assumes nothing.
-use mathlib.Core.Path.{_≡_, refl, sym, ap, _∙_, subst}
+use mathlib.Core.Path.{_≡_, refl, ap, _∙_, subst}
 use mathlib.Core.Bool.{true, cond}
 use mathlib.Core.List.{List, _++_}
 use Prim.Native.Nat.{ℕ}
 use native.Mathlib.Omega.{arith}
-use lib.ListN.{length, drop, length-append}
+use lib.ListN.{length, length-append}
 use lib.Seq.{drop-at}
 use Rattle.lsh.proofs.Bytes.{Bytes, bytes-drop}
 use Rattle.record.specs.declared.Record.{Record}

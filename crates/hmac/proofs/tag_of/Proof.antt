@@ -1,6 +1,4 @@
 -- `hmac::tag_of` meets its contract. Assumes nothing.
-use mathlib.Core.Path.{_≡_}
-use native.Mathlib.Omega.{arith}
 use borrow.Author.Needs.{needs}
 use Rattle.runs.proofs.Limits.{digest-most}
 use Rattle.finalization.proofs.MessageChain.{opened-chain, run-chain}

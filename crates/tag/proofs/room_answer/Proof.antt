@@ -1,6 +1,6 @@
 -- `tag::room_answer` meets its contract. Assumes nothing.
 use borrow.Author.Tests.{lt-ltb, le-ltb}
-use Rattle.tag.specs.KeyAnswer.{tagBytes, roomAnswer}
+use Rattle.tag.specs.KeyAnswer.{roomAnswer}
 use Rattle.tag.proofs.room_answer.Statement.{statement}
 use Rattle.tag.proofs.room_answer.Tie as tie
 

@@ -1,6 +1,6 @@
 -- `tag::write_tag` meets its contract. Assumes nothing.
 use mathlib.Core.Path.{_≡_, sym, ap, _∙_}
-use mathlib.Core.List.{List, _++_}
+use mathlib.Core.List.{_++_}
 use Prim.Native.Nat.{ℕ, _/_}
 use native.Mathlib.Nat.{zero-add}
 use native.Mathlib.Omega.{arith}
