@@ -129,6 +129,18 @@ static void write_order(lsh_record order, uint8_t *receipt)
     must_be_accepted(lsh_close(order, 0, 0, receipt, LSH_RECEIPT_BYTES), "lsh_close");
 }
 
+/* Overwrites the stack below its caller. The calls with a key work there, and do not clear it; they take less than this. */
+static void overwrite_stack(void)
+{
+    volatile uint8_t below[16384];
+    for (size_t i = 0; i < sizeof below; i++) {
+        below[i] = 0;
+    }
+}
+
+/* Called through a pointer that may change, so that the compiler does not make it a part of its caller, whose stack lies above. */
+static void (*volatile clear_stack)(void) = overwrite_stack;
+
 /* Writes the tag of the first pictures. A tag has a record of its own, which begins with the key; the pictures are appended as to an order. */
 static void write_tag(size_t count, uint8_t *tag)
 {
@@ -162,6 +174,7 @@ static void print_order(lsh_record order, size_t count, const char *name)
         uint8_t tag[LSH_TAG_BYTES(DIGEST_BITS)];
         write_tag(count, tag);
         must_be_tag(count, tag);
+        clear_stack();
         print_hexadecimal(tag, sizeof tag);
         printf("  the tag of %s\n", name);
     }
