@@ -1,6 +1,6 @@
 -- The block of a key: it has as many bytes as a block, and so has it with each byte changed.
 -- Assumes nothing.
-use mathlib.Core.Path.{_≡_, refl, sym, ap, ap₂, _∙_}
+use mathlib.Core.Path.{_≡_, refl, sym, ap, _∙_}
 use mathlib.Core.Bool.{Bool, true, false, cond}
 use mathlib.Core.List.{List, _++_}
 use Prim.Native.Nat.{ℕ, _+_, _-_, _/_, _%_, _≤_, _<_}
@@ -58,24 +58,28 @@ take-filled k n s short le =
     ∙ take-append-add s (replicate (n - length s) 0) (k - length s)
     ∙ ap (λ (r : List ℕ). s ++ r) (take-replicate (k - length s) (n - length s) 0 (omega arith))
 
-module _ (w n : ℕ) (word : isWordSize w ≡ true) (digestLength : isDigestLength w n ≡ true) (bytewise : n % 8 ≡ 0) where
-  abbrev B : ℕ
-  B = blockBytes (sizeOf w)
+module _ (w n : ℕ) where
+  abbrev Z : WordSize
+  Z = sizeOf w
 
-  pub digest-short : n / 8 ≤ B
-  unfolding blockBytes
-  digest-short = omega (arith, digest-most w n digestLength, bits-are w word)
+  abbrev B : ℕ
+  B = blockBytes Z
 
   -- the front of a string that zeros fill to the length of the longest block
   pub held-front : (s : List ℕ) {r : List ℕ} → r ≡ heldOf s → length s ≤ B → take B r ≡ zeroFilled B s
   unfolding heldOf
   held-front s is short = ap (take B) is ∙ take-filled B longestBlock s short (block-most w)
 
-  module _ (key : List ℕ) where
-    -- the key that the block is made of
-    abbrev used : List ℕ
-    used = cond (ltb B (length key)) (hashBytes w n key) key
+  -- the digest of a block, each byte exclusive or x, and of a string is that of the string on the chain after the block
+  pub keyed-hash : (b : List ℕ) → length b ≡ B → (x : ℕ) (s : List ℕ) → Bytes s → {t c d : List ℕ} → t ≡ opening Z n
+      → c ≡ forwards Z (blocksOf Z (xorEach x b)) t → d ≡ digestOn w n c s → d ≡ hashBytes w n (xorEach x b ++ s)
+  keyed-hash b one x s bytes first run is =
+      let whole : length (xorEach x b) % B ≡ 0 = ap (λ (k : ℕ). k % B) (length-xor x b ∙ one) ∙ mod-self B in
+      is
+      ∙ ap (λ (v : List ℕ). digestOn w n v s) (run ∙ ap (forwards Z (blocksOf Z (xorEach x b))) first)
+      ∙ sym (hash-after w n (xorEach x b) whole (xor-bytes x b) s bytes)
 
+  module _ (key : List ℕ) where
     pub long-key : B < length key → zeroFilled B (hashBytes w n key) ≡ keyBlock w n key
     unfolding keyBlock
     long-key h = rw (lt-ltb B (length key) h)
@@ -84,31 +88,22 @@ module _ (w n : ℕ) (word : isWordSize w ≡ true) (digestLength : isDigestLeng
     unfolding keyBlock
     short-key h = rw (le-ltb B (length key) h)
 
-    used-short : (b : Bool) → ltb B (length key) ≡ b → length (cond b (hashBytes w n key) key) ≤ B
-    used-short true is = omega (arith, length-hash w n word digestLength bytewise key, digest-short)
-    used-short false is = ltb-false B (length key) is
-
-    length-key : length (keyBlock w n key) ≡ B
-    unfolding keyBlock
-    length-key = filled-length B used (used-short (ltb B (length key)) refl)
-
-    -- with each byte exclusive or x it is one block, and the digest of it and a string is that of the string on the chain after it
-    one-block : (x : ℕ) → length (xorEach x (keyBlock w n key)) % B ≡ 0
-    one-block x = ap (λ (k : ℕ). k % B) (length-xor x (keyBlock w n key) ∙ length-key) ∙ mod-self B
-
-    pub keyed-hash : (x : ℕ) (s : List ℕ) → Bytes s → {b t c d : List ℕ} → b ≡ keyBlock w n key → t ≡ opening (sizeOf w) n
-        → c ≡ forwards (sizeOf w) (blocksOf (sizeOf w) (xorEach x b)) t → d ≡ digestOn w n c s → d ≡ hashBytes w n (xorEach x (keyBlock w n key) ++ s)
-    keyed-hash x s bytes {b} {t} block first run is =
-        let z : WordSize = sizeOf w in
-        is
-        ∙ ap (λ (v : List ℕ). digestOn w n v s)
-        (run ∙ ap₂ (λ (k v : List ℕ). forwards z (blocksOf z (xorEach x k)) v) block first)
-        ∙ sym (hash-after w n (xorEach x (keyBlock w n key)) (one-block x) (xor-bytes x (keyBlock w n key)) s bytes)
-
     pub inner-bytes : Bytes (innerKey w n key)
     unfolding innerKey
     inner-bytes = xor-bytes innerByte (keyBlock w n key)
 
-    pub inner-length : length (innerKey w n key) ≡ B
-    unfolding innerKey
-    inner-length = length-xor innerByte (keyBlock w n key) ∙ length-key
+  module _ (word : isWordSize w ≡ true) (digestLength : isDigestLength w n ≡ true) (bytewise : n % 8 ≡ 0) where
+    pub digest-short : n / 8 ≤ B
+    unfolding blockBytes
+    digest-short = omega (arith, digest-most w n digestLength, bits-are w word)
+
+    module _ (key : List ℕ) where
+      used-short : (b : Bool) → ltb B (length key) ≡ b → length (cond b (hashBytes w n key) key) ≤ B
+      used-short true is = omega (arith, length-hash w n word digestLength bytewise key, digest-short)
+      used-short false is = ltb-false B (length key) is
+
+      pub inner-length : length (innerKey w n key) ≡ B
+      unfolding innerKey keyBlock
+      inner-length =
+          length-xor innerByte (keyBlock w n key)
+          ∙ filled-length B (cond (ltb B (length key)) (hashBytes w n key) key) (used-short (ltb B (length key)) refl)

@@ -12,7 +12,7 @@ ghost use Rattle.lsh.specs.Bits.{bytesOfBits};
 ghost use Rattle.lsh.specs.Padding.{blocksOf};
 ghost use Rattle.lsh.specs.Hash.{digest};
 ghost use Rattle.runs.specs.Limits.{isDigestLength};
-ghost use Rattle.hmac.specs.Hmac.{keyBlock, xorEach, tagOf, hmac};
+ghost use Rattle.hmac.specs.Hmac.{hashBytes, keyBlock, xorEach, tagOf, hmac};
 use runs::LONGEST_BLOCK;
 
 // The byte that the inner block of a key is taken with, and that of the outer block.
@@ -28,8 +28,8 @@ pub fn hmac(w: u64, n: u64, key: &[u8], text: &[u8]) -> [u8; LONGEST_BLOCK]
     let size = (n / 8) as usize;
     let opened = runs::opening(w, n);
     let block = key_block(w, n, opened, key);
-    let inner = digest_on(w, n, key_chain(w, opened, block, INNER), text);
-    digest_on(w, n, key_chain(w, opened, block, OUTER), &inner[..size])
+    let inner = keyed_digest(w, n, opened, block, INNER, text);
+    keyed_digest(w, n, opened, block, OUTER, &inner[..size])
 }
 
 // The tag of an inner digest.
@@ -39,7 +39,7 @@ pub fn tag_of(w: u64, n: u64, key: &[u8], inner: &[u8]) -> [u8; LONGEST_BLOCK]
 {
     let opened = runs::opening(w, n);
     let block = key_block(w, n, opened, key);
-    digest_on(w, n, key_chain(w, opened, block, OUTER), inner)
+    keyed_digest(w, n, opened, block, OUTER, inner)
 }
 
 // The key as a block, and zeros after it. The opening chain of w and n is given, since its callers have it.
@@ -64,6 +64,21 @@ pub fn xor_each(block: [u8; LONGEST_BLOCK], x: u8) -> [u8; LONGEST_BLOCK]
         b[i] = b[i] ^ x;
     }
     b
+}
+
+// The digest of the block of a key, each byte of it exclusive or the byte x, and of the bytes after it.
+fn keyed_digest(
+    w: u64,
+    n: u64,
+    opened: [u64; 16],
+    block: [u8; LONGEST_BLOCK],
+    x: u8,
+    after: &[u8],
+) -> [u8; LONGEST_BLOCK]
+    requires { ⌜ (isWordSize w ≡ true) × (isDigestLength w n ≡ true) × (n % 8 ≡ 0) × (opened ≡ opening (sizeOf w) n) ⌝ }
+    ensures { λ r. ⌜ take (n / 8) r ≡ hashBytes w n (xorEach x (take (blockBytes (sizeOf w)) block) ++ now (after .entry)) ⌝ }
+{
+    digest_on(w, n, key_chain(w, opened, block, x), after)
 }
 
 // The chain after the block of a key, taken with the byte x.

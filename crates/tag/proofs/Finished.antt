@@ -53,5 +53,5 @@ module _ (w n : ℕ) (key m : List ℕ) (ok : Keyed w n (length key) (length m))
   unfolding finishOutput tagOutput hmac recordOf
   same-output bytes output =
       ap (λ (d : List ℕ). cond (eqb (finishAnswer R (length key) (length output)) 0) (tagOf w n key d ++ drop (tagBytes n) output) output)
-      (inner-digest w n (innerKey w n key ++ m) (ok .wordSize) (bytes-append (innerKey w n key) m (inner-bytes w n (ok .wordSize) (ok .digestLength) (ok .bytewise) key) bytes))
+      (inner-digest w n (innerKey w n key ++ m) (ok .wordSize) (bytes-append (innerKey w n key) m (inner-bytes w n key) bytes))
       ∙ ap (λ (a : ℕ). cond (eqb a 0) (hmac w n key m ++ drop (tagBytes n) output) output) (same-answer (length output))

@@ -64,7 +64,7 @@ start-new w n key e =
       kept =
           record {
             few = omega (arith, started-length w n key e, ok .within);
-            bytes = inner-bytes w n (ok .wordSize) (ok .digestLength) (ok .bytewise) key;
+            bytes = inner-bytes w n key;
           };
       counted = started-count w n key e ∙ sym one;
       short = omega (arith, one);

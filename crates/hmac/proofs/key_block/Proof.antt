@@ -40,15 +40,15 @@ key-block-spec =
     let key = z .args .key .now in
     let short : length (take (z .args .n / 8) (f .digest-on .result)) ≤ blockBytes (sizeOf (z .args .w)) =
     rw (length-take-le _ _ (inside f)) (digest-short _ _ (z .pre .0) (z .pre .1) (z .pre .2)) in
-    held-front _ _ (z .pre .0) (z .pre .1) (z .pre .2) _ (c .hold .ensures) short
+    held-front _ (z .args .n) _ (c .hold .ensures) short
     ∙ ap (zeroFilled (blockBytes (sizeOf (z .args .w))))
     (f .digest-on .ensures
     ∙ ap (λ (t : List ℕ). digestOn (z .args .w) (z .args .n) t key) (z .pre .3)
     ∙ sym (hash-is (z .args .w) (z .args .n) key (λ i. f .before .before .before .shared-slice-known .given i .fits)))
-    ∙ long-key _ _ (z .pre .0) (z .pre .1) (z .pre .2) key (omega (arith, f .before .before .block-bytes .ensures, f .before .if1 .taken)))
+    ∙ long-key _ _ key (omega (arith, f .before .before .block-bytes .ensures, f .before .if1 .taken)))
     (λ c κs. omega (arith, block-most (c .before .before .before .args .w), c .before .block-bytes .ensures, c .if1 .left))
     (λ c.
     let z = c .before .before .before .before in
     let key = z .args .key .now in
     let short : length key ≤ blockBytes (sizeOf (z .args .w)) = omega (arith, c .before .before .block-bytes .ensures, c .before .if1 .left) in
-    held-front _ _ (z .pre .0) (z .pre .1) (z .pre .2) key (c .hold2 .ensures) short ∙ short-key _ _ (z .pre .0) (z .pre .1) (z .pre .2) key short))
+    held-front _ (z .args .n) key (c .hold2 .ensures) short ∙ short-key _ _ key short))
