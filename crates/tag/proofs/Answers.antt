@@ -7,18 +7,16 @@ use Prim.Native.Nat.{ℕ, _+_, _-_, _%_, _≤_}
 use native.Mathlib.Omega.{arith}
 use borrow.Author.Tests.{eqb-true, eq-eqb, ne-eqb, lt-ltb, le-ltb, ltb-true, ltb-false}
 use lib.Dec.{eqb, ltb}
-use lib.ListN.{length, drop}
+use lib.ListN.{drop}
 use Rattle.lsh.specs.WordSize.{isWordSize, sizeOf, blockBytes}
-use Rattle.lsh.specs.Bits.{bytesOfBits}
 use Rattle.runs.specs.Limits.{isDigestLength, limit}
 use Rattle.runs.proofs.Limits.{block-most}
 use Rattle.record.specs.declared.Record.{Record}
 use Rattle.record.specs.Record.{sound}
-use Rattle.close.specs.Close.{closedDigest}
-use Rattle.hmac.specs.Hmac.{tagOf, hmac}
 use Rattle.tag.specs.KeyAnswer.{isWholeBytes, tagBytes, keyAnswer, roomAnswer}
-use Rattle.tag.specs.Tag.{tagAnswer, tagOutput}
-use Rattle.tag.specs.Finish.{finishAnswer, finishOutput}
+use Rattle.tag.specs.WithTag.{withTag}
+use Rattle.tag.specs.Tag.{tagAnswer}
+use Rattle.tag.specs.Finish.{finishAnswer}
 
 -- a call that the tests of w, n and the lengths accept
 pub record Keyed (w n keyLength len : ℕ) : Type 0 where
@@ -104,30 +102,13 @@ module _ (r : Record) (keyLength size : ℕ) where
       tests true false c d is = absurd (omega arith)
       tests false b c d is = absurd (omega arith)
 
--- the outputs
-module _ (w n : ℕ) (key m output : List ℕ) where
-  abbrev answer : ℕ
-  answer = tagAnswer w n (length key) (length m) (length output)
+-- the output after a refusal, and with a tag
+module _ (answer n : ℕ) (tag output : List ℕ) where
+  pub refused-output : {a : ℕ} → a ≡ answer → (a ≡ 0 → ⊥) → (a ≡ answer) × (output ≡ withTag answer n tag output)
+  unfolding withTag
+  refused-output is other = (is, rw (ne-eqb answer 0 (λ p. other (is ∙ p))))
 
-  pub tag-refused : {a : ℕ} → a ≡ answer → (a ≡ 0 → ⊥) → (a ≡ answer) × (output ≡ tagOutput w n key m output)
-  unfolding tagOutput
-  tag-refused is other = (is, rw (ne-eqb answer 0 (λ p. other (is ∙ p))))
-
-  pub tag-written : {t d : List ℕ} → answer ≡ 0 → t ≡ hmac w n key m → d ≡ t ++ drop (tagBytes n) output → (0 ≡ answer) × (d ≡ tagOutput w n key m output)
-  unfolding tagOutput
-  tag-written is tag stored =
-      (sym is, stored ∙ ap (λ (t : List ℕ). t ++ drop (tagBytes n) output) tag ∙ sym (rw (eq-eqb answer 0 is)))
-
-module _ (r : Record) (key output : List ℕ) where
-  abbrev finished : ℕ
-  finished = finishAnswer r (length key) (length output)
-
-  pub finish-refused : {a : ℕ} → a ≡ finished → (a ≡ 0 → ⊥) → (a ≡ finished) × (output ≡ finishOutput r key output)
-  unfolding finishOutput
-  finish-refused is other = (is, rw (ne-eqb finished 0 (λ p. other (is ∙ p))))
-
-  pub finish-written : {t d : List ℕ} → finished ≡ 0 → t ≡ tagOf (r .w) (r .n) key (bytesOfBits (closedDigest r 0 0)) → d ≡ t ++ drop (tagBytes (r .n)) output
-      → (0 ≡ finished) × (d ≡ finishOutput r key output)
-  unfolding finishOutput
-  finish-written is tag stored =
-      (sym is, stored ∙ ap (λ (t : List ℕ). t ++ drop (tagBytes (r .n)) output) tag ∙ sym (rw (eq-eqb finished 0 is)))
+  pub written-output : {t d : List ℕ} → answer ≡ 0 → t ≡ tag → d ≡ t ++ drop (tagBytes n) output → (0 ≡ answer) × (d ≡ withTag answer n tag output)
+  unfolding withTag
+  written-output is same stored =
+      (sym is, stored ∙ ap (λ (t : List ℕ). t ++ drop (tagBytes n) output) same ∙ sym (rw (eq-eqb answer 0 is)))

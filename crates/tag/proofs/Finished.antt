@@ -1,13 +1,12 @@
 -- The finish on the record of a key's inner block and a message is the tag of the message.
 -- Assumes nothing.
-use mathlib.Core.Path.{_≡_, ap, _∙_}
-use mathlib.Core.Bool.{true, cond}
+use mathlib.Core.Path.{_≡_, ap, ap₂, _∙_}
+use mathlib.Core.Bool.{true}
 use mathlib.Core.List.{List, _++_, append-nil}
 use Prim.Native.Nat.{ℕ, _+_, _%_}
 use native.Mathlib.Omega.{arith}
 use borrow.Author.Tests.{eq-eqb, le-ltb}
-use lib.Dec.{eqb}
-use lib.ListN.{length, drop, length-append}
+use lib.ListN.{length, length-append}
 use Rattle.lsh.specs.WordSize.{isWordSize}
 use Rattle.lsh.specs.Bits.{bitsOf, bytesOfBits}
 use Rattle.lsh.specs.Hash.{lsh}
@@ -21,7 +20,8 @@ use Rattle.close.specs.Close.{closedDigest}
 use Rattle.close.proofs.Messages.{closed-digest}
 use Rattle.hmac.specs.Hmac.{hashBytes, innerKey, tagOf, hmac}
 use Rattle.hmac.proofs.Keys.{inner-length, inner-bytes}
-use Rattle.tag.specs.KeyAnswer.{isWholeBytes, tagBytes, keyAnswer}
+use Rattle.tag.specs.KeyAnswer.{isWholeBytes, keyAnswer}
+use Rattle.tag.specs.WithTag.{withTag}
 use Rattle.tag.specs.Tag.{tagAnswer, tagOutput}
 use Rattle.tag.specs.Finish.{finishAnswer, finishOutput}
 use Rattle.tag.proofs.Answers.{Keyed}
@@ -52,6 +52,5 @@ module _ (w n : ℕ) (key m : List ℕ) (ok : Keyed w n (length key) (length m))
   pub same-output : Bytes m → (output : List ℕ) → finishOutput R key output ≡ tagOutput w n key m output
   unfolding finishOutput tagOutput hmac recordOf
   same-output bytes output =
-      ap (λ (d : List ℕ). cond (eqb (finishAnswer R (length key) (length output)) 0) (tagOf w n key d ++ drop (tagBytes n) output) output)
+      ap₂ (λ (a : ℕ) (d : List ℕ). withTag a n (tagOf w n key d) output) (same-answer (length output))
       (inner-digest w n (innerKey w n key ++ m) (ok .wordSize) (bytes-append (innerKey w n key) m (inner-bytes w n key) bytes))
-      ∙ ap (λ (a : ℕ). cond (eqb a 0) (hmac w n key m ++ drop (tagBytes n) output) output) (same-answer (length output))

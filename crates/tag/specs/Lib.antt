@@ -1,4 +1,5 @@
 pub mod KeyAnswer
+pub mod WithTag
 pub mod Tag
 pub mod Start
 pub mod Finish

@@ -12,7 +12,8 @@ use Rattle.record.specs.Record.{sound}
 use Rattle.record.proofs.Sound.{sounds}
 use Rattle.hmac.specs.Hmac.{tagOf}
 use Rattle.tag.specs.KeyAnswer.{tagBytes}
-use Rattle.tag.proofs.Answers.{finish-accepted, finish-refused, finish-written}
+use Rattle.tag.specs.Finish.{finishOutput}
+use Rattle.tag.proofs.Answers.{finish-accepted, refused-output, written-output}
 use Rattle.tag.proofs.finish.Statement.{statement}
 use Rattle.tag.proofs.finish.Tie as tie
 
@@ -35,13 +36,14 @@ inside : tie.Need-array-share-prefix-inner
 inside c = let long : length (c .digest-bytes .result) ≡ longestBlock = search needs in omega (arith, few (c .before))
 
 pub finish-spec : {M : Type 1} → statement M
+unfolding finishOutput
 finish-spec =
     tie.close
     (tie.spec
     (λ c κs. search needs)
     (λ c.
     let a = c .before .before .before .before .args in
-    finish-refused (a .r) (a .key .now) (a .output .now) (c .before .finish-answer .ensures) (c .if1 .taken))
+    refused-output _ _ _ (a .output .now) (c .before .finish-answer .ensures) (c .if1 .taken))
     (λ c κs. passed c .0)
     inside
     (λ c. sym (length-take-le _ _ (inside (c .before))))
@@ -58,7 +60,7 @@ finish-spec =
     let p = d .before in
     let a = p .before .before .before .before .args in
     let size : a .r .n / 8 ≡ (a .r .n + 7) / 8 = omega (arith, passed p .1) in
-    finish-written (a .r) (a .key .now) (a .output .now) (sym (p .before .finish-answer .ensures) ∙ p .if1 .left)
+    written-output _ _ _ (a .output .now) (sym (p .before .finish-answer .ensures) ∙ p .if1 .left)
     (c .before .before .before .before .tag-of .ensures
     ∙ ap (tagOf (a .r .w) (a .r .n) (a .key .now)) (ap (λ (k : ℕ). take k (d .digest-bytes .result)) size ∙ d .digest-bytes .ensures))
     (c .before .before .write-tag .ensures)))

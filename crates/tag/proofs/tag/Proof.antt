@@ -6,7 +6,8 @@ use lib.ListN.{length}
 use borrow.Author.Needs.{needs}
 use Rattle.runs.proofs.Limits.{digest-longest}
 use Rattle.tag.specs.KeyAnswer.{tagBytes}
-use Rattle.tag.proofs.Answers.{Keyed, tag-accepted, tag-refused, tag-written}
+use Rattle.tag.specs.Tag.{tagOutput}
+use Rattle.tag.proofs.Answers.{Keyed, tag-accepted, refused-output, written-output}
 use Rattle.tag.proofs.tag.Statement.{statement}
 use Rattle.tag.proofs.tag.Tie as tie
 
@@ -19,13 +20,14 @@ passed c =
     tag-accepted (a .w) (a .n) (length (a .key .now)) (length (a .message .now)) (length (a .output .now)) (sym (c .before .answer .ensures) ∙ c .if1 .left)
 
 pub tag-spec : {M : Type 1} → statement M
+unfolding tagOutput
 tag-spec =
     tie.close
     (tie.spec
     (λ c κs. search needs)
     (λ c.
     let a = c .before .before .before .before .before .args in
-    tag-refused _ _ (a .key .now) (a .message .now) (a .output .now) (c .before .answer .ensures) (c .if1 .taken))
+    refused-output _ _ _ (a .output .now) (c .before .answer .ensures) (c .if1 .taken))
     (λ c κs. (passed c .0 .wordSize, passed c .0 .digestLength, passed c .0 .bytewise))
     (λ c κs.
     let p = c .before .before in
@@ -34,5 +36,5 @@ tag-spec =
     (λ c.
     let p = c .before .before .before .before .before in
     let a = p .before .before .before .before .before .args in
-    tag-written _ _ (a .key .now) (a .message .now) (a .output .now) (sym (p .before .answer .ensures) ∙ p .if1 .left)
+    written-output _ _ _ (a .output .now) (sym (p .before .answer .ensures) ∙ p .if1 .left)
     (c .before .before .before .before .hmac .ensures) (c .before .before .write-tag .ensures)))
