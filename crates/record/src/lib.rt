@@ -5,11 +5,11 @@ ghost use Prim.Native.Nat.{_+_, _^_, _≤_};
 ghost use lib.ListN.{length, drop};
 ghost use lib.Seq.{paste};
 ghost use Rattle.lsh.specs.WordSize.{isWordSize};
-ghost use Rattle.runs.specs.Limits.{longestBlock};
+ghost use Rattle.runs.specs.Limits.{longestBlock, isDigestLength};
 ghost use Rattle.record.specs.Lists.{allBelow, allZero};
 ghost use Rattle.record.specs.Split.{notBegun, noneBegun, oneBegun, splitSound};
 ghost use Rattle.record.specs.Record.{heldOf, heldLength, sound, zeros, isBegun, stepped, refused};
-ghost use Rattle.record.specs.Open.{openCall};
+ghost use Rattle.record.specs.Open.{opened, openCall};
 use runs::LONGEST_BLOCK;
 
 // What is kept of an order between calls: the word size, the digest length in bits, how many bytes there were, the chain after
@@ -52,21 +52,29 @@ pub fn open(w: u64, n: u64) -> Outcome
     if !runs::is_digest_length(w, n) {
         return refused(2, no_record());
     }
+    let next = opened(w, n);
+    Outcome {
+        number: 0,
+        count: 0,
+        next: next,
+    }
+}
+
+// The record of an order without bytes.
+pub fn opened(w: u64, n: u64) -> Record
+    requires { ⌜ (isWordSize w ≡ true) × (isDigestLength w n ≡ true) ⌝ }
+    ensures { λ r. ⌜ r ≡ opened w n ⌝ }
+{
     let c = runs::opening(w, n);
     let h = runs::zero_bytes();
     let s = not_begun();
-    let next = Record {
+    Record {
         w: w,
         n: n,
         total: 0,
         chain: c,
         held: h,
         split: s,
-    };
-    Outcome {
-        number: 0,
-        count: 0,
-        next: next,
     }
 }
 

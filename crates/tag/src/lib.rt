@@ -34,8 +34,7 @@ pub fn start(w: u64, n: u64, key: &[u8]) -> Outcome
     if a != 0 {
         return record::refused(a, record::no_record());
     }
-    let o = record::open(w, n);
-    let opened = o.next;
+    let opened = record::opened(w, n);
     let c = opened.chain;
     let size = runs::block_bytes(w);
     let block = hmac::xor_each(hmac::key_block(w, n, c, key), hmac::INNER);

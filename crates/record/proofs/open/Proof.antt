@@ -4,11 +4,8 @@ use mathlib.Core.Bool.{true}
 use borrow.Author.Needs.{needs}
 use borrow.Author.Tests.{not-true, not-false}
 use Rattle.lsh.specs.WordSize.{isWordSize}
-use Rattle.lsh.specs.Opening.{opening}
 use Rattle.runs.specs.Limits.{isDigestLength}
-use Rattle.record.specs.Record.{heldOf}
 use Rattle.record.specs.Open.{opened, openCall}
-use Rattle.runs.proofs.Limits.{digest-most}
 use Rattle.record.proofs.open.Statement.{statement}
 use Rattle.record.proofs.open.Tie as tie
 
@@ -34,18 +31,8 @@ returns-2 c =
       c .before .no-record2 .ensures,
     )
 
-returns-3 : tie.Need-returns-3
-unfolding openCall opened heldOf
-returns-3 c =
-    rw (
-      word-passed (c .before .before .before .before .before),
-      digest-passed (c .before .before .before),
-      c .before .before .opening .ensures,
-      c .before .zero-bytes .ensures,
-      c .not-begun .ensures,
-    )
-
 pub open-spec : {M : Type 1} → statement M
+unfolding openCall
 open-spec =
     tie.close
     (tie.spec
@@ -57,7 +44,5 @@ open-spec =
     (λ c κs. search needs)
     (λ c κs. search needs)
     returns-2
-    (λ c κs. (word-passed (c .before .before), digest-most _ _ (digest-passed c)))
-    (λ c κs. search needs)
-    (λ c κs. search needs)
-    returns-3)
+    (λ c κs. (word-passed (c .before .before), digest-passed c))
+    (λ c. rw (word-passed (c .before .before .before), digest-passed (c .before), c .opened .ensures)))

@@ -11,10 +11,8 @@ use Rattle.lsh.specs.WordSize.{sizeOf, blockBytes}
 use Rattle.runs.specs.Limits.{longestBlock, limit}
 use Rattle.runs.proofs.Limits.{block-most}
 use Rattle.record.specs.declared.Record.{Record}
-use Rattle.record.specs.declared.Outcome.{Outcome}
 use Rattle.record.specs.Record.{sound}
 use Rattle.record.specs.Open.{opened}
-use Rattle.record.proofs.Strings.{open-next}
 use Rattle.append.specs.Append.{appendAccepted}
 use Rattle.hmac.specs.Hmac.{innerByte, xorEach, innerKey}
 use Rattle.hmac.proofs.Keys.{take-xor}
@@ -30,25 +28,19 @@ passed c =
     let a = c .before .before .before .args in
     keyed (a .w) (a .n) (length (a .key .now)) 0 (sym (c .before .key-answer .ensures) ∙ c .if1 .left)
 
--- the newly opened record
-open-is : (c : tie.After-open) → c .«open» .result .next ≡ opened (c .before .before .before .before .args .w) (c .before .before .before .before .args .n)
-open-is c =
-    let a = c .before .before .before .before .args in
-    ap (λ (o : Outcome). o .next) (c .«open» .ensures) ∙ open-next (a .w) (a .n) (passed (c .before) .wordSize) (passed (c .before) .digestLength)
-
 -- a block fits into the array
 inside : tie.Need-array-share-prefix-block
 inside c =
     let long : length (c .xor-each .result) ≡ longestBlock = search needs in
-    omega (arith, c .before .before .block-bytes .ensures, block-most (c .before .before .before .before .before .before .before .before .before .args .w))
+    omega (arith, c .before .before .block-bytes .ensures, block-most (c .before .before .before .before .before .before .before .before .args .w))
 
 -- the piece is the inner block of the key
 inner-is : (c : tie.After-xor-each)
     → take (c .before .before .block-bytes .result) (c .xor-each .result)
-    ≡ innerKey (c .before .before .before .before .before .before .before .before .before .args .w) (c .before .before .before .before .before .before .before .before .before .args .n) (c .before .before .before .before .before .before .before .before .before .args .key .now)
+    ≡ innerKey (c .before .before .before .before .before .before .before .before .args .w) (c .before .before .before .before .before .before .before .before .args .n) (c .before .before .before .before .before .before .before .before .args .key .now)
 unfolding innerKey
 inner-is c =
-    let a = c .before .before .before .before .before .before .before .before .before .args in
+    let a = c .before .before .before .before .before .before .before .before .args in
     let block = c .before .key-block .result in
     let long : length block ≡ longestBlock = search needs in
     ap₂ (λ (k : ℕ) (s : List ℕ). take k s) (c .before .before .block-bytes .ensures) (c .xor-each .ensures)
@@ -67,28 +59,27 @@ start-spec =
     let k = c .before .before .before in
     c .refused .ensures
     ∙ rw (sym (k .key-answer .ensures), ne-eqb _ 0 (c .before .before .if1 .taken), c .before .no-record .ensures))
-    (λ c κs. search needs)
+    (λ c κs. (passed c .wordSize, passed c .digestLength))
     (λ c κs. search needs)
     (λ c κs.
-    let o = c .before .before .before in
+    let o = c .before .before in
     let p = passed (o .before) in
-    (p .wordSize, p .digestLength, p .bytewise, ap (λ (r : Record). r .chain) (open-is o)))
+    (p .wordSize, p .digestLength, p .bytewise, ap (λ (r : Record). r .chain) (o .opened .ensures)))
     (λ c κs. search needs)
     inside
     (λ c. sym (length-take-le _ _ (inside (c .before))))
     (λ c κs.
-    let o = c .before .before .before .before .before .before in
+    let o = c .before .before .before .before .before in
     let a = o .before .before .before .before .args in
     let p = passed (o .before) in
     let size = length-take-le (c .before .before .before .block-bytes .result) (c .before .xor-each .result) (inside (c .before)) in (
-      ap sound (open-is o) ∙ opened-sound (a .w) (a .n) (p .wordSize) (p .digestLength),
-      omega (arith, ap (λ (r : Record). r .total) (open-is o), size, c .before .before .before .block-bytes .ensures, block-most (a .w)),
+      ap sound (o .opened .ensures) ∙ opened-sound (a .w) (a .n) (p .wordSize) (p .digestLength),
+      omega (arith, ap (λ (r : Record). r .total) (o .opened .ensures), size, c .before .before .before .block-bytes .ensures, block-most (a .w)),
     ))
     (λ c.
     let x = c .before .before in
-    let o = x .before .before .before .before .before in
+    let o = x .before .before .before .before in
     let k = o .before .before in
-    let a = k .before .before .args in
     c .accepted .ensures
-    ∙ ap₂ appendAccepted (open-is o) (inner-is x)
+    ∙ ap₂ appendAccepted (o .opened .ensures) (inner-is x)
     ∙ sym (rw (eq-eqb _ 0 (sym (k .key-answer .ensures) ∙ o .before .if1 .left)))))
