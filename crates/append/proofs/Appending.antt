@@ -12,9 +12,8 @@ use Rattle.lsh.specs.WordSize.{WordSize, sizeOf, blockBytes}
 use Rattle.lsh.specs.Block.{forwards}
 use Rattle.lsh.specs.Padding.{blocksOf, restOf}
 use Rattle.lsh.proofs.Figures.{block-some}
-use Rattle.lsh.proofs.Blocks.{forwards-append}
 use Rattle.lsh.proofs.Padding.{blocks-short, rest-short}
-use Rattle.lsh.proofs.Splitting.{blocks-split, rest-split}
+use Rattle.lsh.proofs.Splitting.{forwards-split, rest-split}
 use Rattle.runs.specs.Limits.{longestBlock}
 use Rattle.runs.proofs.Limits.{block-most}
 use Rattle.runs.proofs.Zeros.{drop-replicate}
@@ -35,11 +34,6 @@ answered r size count chain held =
       count = count;
       next = record { w = r .w; n = r .n; total = r .total + size; chain = chain; held = held; split = r .split };
     }
-
--- whole blocks, and then the blocks of what follows them
-forwards-first : (z : WordSize) (s p t : List ℕ) → 0 < blockBytes z → length s % blockBytes z ≡ 0
-    → forwards z (blocksOf z (s ++ p)) t ≡ forwards z (blocksOf z p) (forwards z (blocksOf z s) t)
-forwards-first z s p t some whole = rw (blocks-split z some s whole p) (forwards-append z (blocksOf z s) (blocksOf z p) t)
 
 -- how many bytes are held, and how many the block begun has room for
 abbrev pub fill : Record → ℕ
@@ -116,4 +110,4 @@ module _ (r : Record) (ok : sound r ≡ true) (long : length (r .held) ≡ longe
       let c : length whole / B ≡ length after / B + 1 =
       omega (arith, ap (λ (n : ℕ). n / B) a ∙ mul-add-div-right some 1 (length after)) in
       let one : length first % B ≡ 0 = ap (λ (n : ℕ). n % B) l ∙ mod-self B in
-      accepted ∙ rw (c, j, forwards-first Z first after (r .chain) some one, rest-split Z some first one after)
+      accepted ∙ rw (c, j, forwards-split Z some first one after (r .chain), rest-split Z some first one after)

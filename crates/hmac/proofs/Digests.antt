@@ -15,9 +15,8 @@ use Rattle.lsh.specs.Padding.{padded, blocksOf}
 use Rattle.lsh.specs.Hash.{digest, hash, lsh}
 use Rattle.lsh.proofs.Figures.{block-some}
 use Rattle.lsh.proofs.Bytes.{Bytes, bytes-append}
-use Rattle.lsh.proofs.Blocks.{forwards-append}
 use Rattle.lsh.proofs.Padding.{length-rest, blocks-short}
-use Rattle.lsh.proofs.Splitting.{blocks-split, rest-split}
+use Rattle.lsh.proofs.Splitting.{forwards-split, rest-split}
 use Rattle.message.proofs.Padded.{padded-bytes}
 use Rattle.runs.specs.Limits.{isDigestLength}
 use Rattle.runs.proofs.Limits.{digest-most}
@@ -59,8 +58,7 @@ module _ (w n : ℕ) where
         (padded-is (p ++ s) (bytes-append p s front bytes)
         ∙ ap (λ (k : ℕ). (p ++ s) ++ 128 ∷ replicate (B - 1 - k) 0) (size-after s)
         ∙ append-assoc p s (tail (length s)))
-        ∙ ap (λ (bs : List (List ℕ)). bytesOfBits (digest Z n (forwards Z bs (opening Z n)))) (blocks-split Z some p whole (s ++ tail (length s)))
-        ∙ ap (λ (t : List ℕ). bytesOfBits (digest Z n t)) (forwards-append Z (blocksOf Z p) (blocksOf Z (s ++ tail (length s))) (opening Z n))
+        ∙ ap (λ (t : List ℕ). bytesOfBits (digest Z n t)) (forwards-split Z some p whole (s ++ tail (length s)) (opening Z n))
 
   -- of the whole string
   pub hash-is : (s : List ℕ) → Bytes s → hashBytes w n s ≡ digestOn (opening Z n) s

@@ -1,6 +1,6 @@
 -- The block of a key: it has as many bytes as a block, and so has it with each byte changed.
 -- Assumes nothing.
-use mathlib.Core.Path.{_≡_, refl, sym, ap, _∙_}
+use mathlib.Core.Path.{_≡_, refl, sym, ap, ap₂, _∙_}
 use mathlib.Core.Bool.{Bool, true, false, cond}
 use mathlib.Core.List.{List, _++_}
 use Prim.Native.Nat.{ℕ, _+_, _-_, _/_, _%_, _≤_, _<_}
@@ -30,15 +30,15 @@ use Rattle.hmac.proofs.Digests.{digestOn, hash-after, length-hash}
 
 -- each byte exclusive or x
 
-pub length-xor : (x : ℕ) (s : List ℕ) → length (xorEach x s) ≡ length s
+length-xor : (x : ℕ) (s : List ℕ) → length (xorEach x s) ≡ length s
 unfolding xorEach
 length-xor x s = length-tabulate (length s) (λ i. xor 8 (at s i) x)
 
-pub xor-bytes : (x : ℕ) (s : List ℕ) → Bytes (xorEach x s)
+xor-bytes : (x : ℕ) (s : List ℕ) → Bytes (xorEach x s)
 unfolding xorEach
 xor-bytes x s = tabulate-all (λ (b : ℕ). b < 256) (length s) _ (omega arith) (λ k h. xor-lt 8 (at s k) x)
 
-pub take-xor : (k x : ℕ) (s : List ℕ) → k ≤ length s → take k (xorEach x s) ≡ xorEach x (take k s)
+take-xor : (k x : ℕ) (s : List ℕ) → k ≤ length s → take k (xorEach x s) ≡ xorEach x (take k s)
 unfolding xorEach
 take-xor k x s le =
     let size : length (take k s) ≡ k = length-take-le k s le in
@@ -51,12 +51,24 @@ take-xor k x s le =
     ∙ sym (getD-take k (xorEach x s) i 0 inside ∙ at-tabulate (length s) (λ j. xor 8 (at s j) x) i (omega arith))))
 
 -- the front of a string that zeros fill
-pub take-filled : (k n : ℕ) (s : List ℕ) → length s ≤ k → k ≤ n → take k (zeroFilled n s) ≡ zeroFilled k s
+take-filled : (k n : ℕ) (s : List ℕ) → length s ≤ k → k ≤ n → take k (zeroFilled n s) ≡ zeroFilled k s
 take-filled k n s short le =
     let parts : k ≡ length s + (k - length s) = omega arith in
     ap (λ (i : ℕ). take i (zeroFilled n s)) parts
     ∙ take-append-add s (replicate (n - length s) 0) (k - length s)
     ∙ ap (λ (r : List ℕ). s ++ r) (take-replicate (k - length s) (n - length s) 0 (omega arith))
+
+-- by w, in arrays as long as the longest block: zeros after a string, and a block that stands at the front, changed
+module _ (w : ℕ) where
+  pub held-front : (s : List ℕ) {r : List ℕ} → r ≡ heldOf s → length s ≤ blockBytes (sizeOf w)
+      → take (blockBytes (sizeOf w)) r ≡ zeroFilled (blockBytes (sizeOf w)) s
+  unfolding heldOf
+  held-front s is short = ap (take (blockBytes (sizeOf w))) is ∙ take-filled (blockBytes (sizeOf w)) longestBlock s short (block-most w)
+
+  pub xored-front : (x : ℕ) (b : List ℕ) → length b ≡ longestBlock → {k : ℕ} {r : List ℕ} → k ≡ blockBytes (sizeOf w) → r ≡ xorEach x b
+      → take k r ≡ xorEach x (take (blockBytes (sizeOf w)) b)
+  xored-front x b long size is =
+      ap₂ (λ (i : ℕ) (s : List ℕ). take i s) size is ∙ take-xor (blockBytes (sizeOf w)) x b (omega (arith, block-most w))
 
 module _ (w n : ℕ) where
   abbrev Z : WordSize
@@ -64,11 +76,6 @@ module _ (w n : ℕ) where
 
   abbrev B : ℕ
   B = blockBytes Z
-
-  -- the front of a string that zeros fill to the length of the longest block
-  pub held-front : (s : List ℕ) {r : List ℕ} → r ≡ heldOf s → length s ≤ B → take B r ≡ zeroFilled B s
-  unfolding heldOf
-  held-front s is short = ap (take B) is ∙ take-filled B longestBlock s short (block-most w)
 
   -- the digest of a block, each byte exclusive or x, and of a string is that of the string on the chain after the block
   pub keyed-hash : (b : List ℕ) → length b ≡ B → (x : ℕ) (s : List ℕ) → Bytes s → {t c d : List ℕ} → t ≡ opening Z n

@@ -23,7 +23,7 @@ use Rattle.tag.specs.Start.{startCall}
 use Rattle.tag.specs.Finish.{finishAnswer, finishOutput}
 use Rattle.tag.specs.Pieces.{afterPieces, acceptedBytes}
 use Rattle.tag.proofs.Answers.{Keyed}
-use Rattle.tag.proofs.Started.{start-accepted, started-record, started-length}
+use Rattle.tag.proofs.Started.{start-accepted, started-record, started-length, keyed-message}
 use Rattle.tag.proofs.Finished.{same-answer, same-output}
 
 module _ (w n : ℕ) (word : isWordSize w ≡ true) (digest : isDigestLength w n ≡ true) where
@@ -83,14 +83,7 @@ module _ (w n : ℕ) (key : List ℕ) (accepted : startCall w n key .number ≡ 
       (joined w n (ok .wordSize) (ok .digestLength) ps (innerKey w n key) (omega (arith, started-length w n key accepted, ok .within)))
 
   keyed : Keyed w n (length key) (length message)
-  keyed =
-      record {
-        wordSize = ok .wordSize;
-        digestLength = ok .digestLength;
-        bytewise = ok .bytewise;
-        short = ok .short;
-        within = omega (arith, started-length w n key accepted, all .few);
-      }
+  keyed = keyed-message w n key accepted message (omega (arith, length-append (innerKey w n key) message, all .few))
 
   pub tag-of-pieces : (output : List ℕ)
       → (finishAnswer (afterPieces started ps) (length key) (length output) ≡ tagAnswer w n (length key) (length message) (length output))

@@ -2,15 +2,16 @@
 -- Assumes nothing.
 use mathlib.Core.Path.{_≡_, refl, sym, ap, _∙_}
 use mathlib.Core.Bool.{Bool, true, false, cond}
-use mathlib.Core.List.{List, []}
-use Prim.Native.Nat.{ℕ, zero-le}
+use mathlib.Core.List.{List, [], _++_}
+use Prim.Native.Nat.{ℕ, _≤_, zero-le}
 use native.Mathlib.Nat.{zero-add, zero-div, div-self}
+use native.Mathlib.Omega.{arith}
 use borrow.Author.Tests.{eqb-true, eq-eqb}
 use lib.Dec.{eqb}
-use lib.ListN.{length}
+use lib.ListN.{length, length-append}
 use Rattle.lsh.specs.WordSize.{isWordSize, sizeOf, blockBytes}
 use Rattle.lsh.proofs.Figures.{block-some}
-use Rattle.runs.specs.Limits.{isDigestLength}
+use Rattle.runs.specs.Limits.{isDigestLength, limit}
 use Rattle.record.specs.Record.{sound, zeros, recordOf, refused}
 use Rattle.record.specs.Open.{opened}
 use Rattle.record.proofs.Strings.{record-sound, record-none}
@@ -43,6 +44,17 @@ module _ (w n : ℕ) (key : List ℕ) (accepted : startCall w n key .number ≡ 
 
   pub started-length : length (innerKey w n key) ≡ blockBytes (sizeOf w)
   started-length = inner-length w n (start-accepted .wordSize) (start-accepted .digestLength) (start-accepted .bytewise) key
+
+  -- with a message that the limit lets pass, the tests are passed as well
+  pub keyed-message : (m : List ℕ) → length (innerKey w n key ++ m) ≤ limit → Keyed w n (length key) (length m)
+  keyed-message m few =
+      record {
+        wordSize = start-accepted .wordSize;
+        digestLength = start-accepted .digestLength;
+        bytewise = start-accepted .bytewise;
+        short = start-accepted .short;
+        within = omega (arith, few, length-append (innerKey w n key) m, started-length);
+      }
 
   -- one block is run
   pub started-count : startCall w n key .count ≡ 1

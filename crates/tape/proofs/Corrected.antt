@@ -12,7 +12,7 @@ use lib.ListN.{length}
 use Rattle.lsh.specs.WordSize.{isWordSize, sizeOf, blockBytes}
 use Rattle.runs.specs.Limits.{isDigestLength, limit}
 use Rattle.record.specs.declared.Record.{Record}
-use Rattle.record.specs.Record.{heldLength, recordOf, withSplit}
+use Rattle.record.specs.Record.{sound, heldLength, recordOf, withSplit}
 use Rattle.rewind.specs.Rewind.{startsOffBlock, keepsTooMuch}
 use Rattle.rewind.proofs.Lengths.{OnBlock, keeps-few}
 use Rattle.split_rewind.specs.HandBack.{noBlock}
@@ -27,8 +27,8 @@ use Rattle.tape.specs.First.{First, firstCall, firstBytes}
 use Rattle.tape.specs.TapeRoll.{tapeChains, RollShows, lentRoll}
 use Rattle.tape.specs.Corrected.{newOrder, orderAfter, orderAnswers, tapeAfter, tapeAnswers, Premise, Corrected, byLength, allByLength}
 use Rattle.tape.proofs.Simulation.{Follows, good-after, calls-follow, counts}
-use Rattle.tape.proofs.Steps.{either, Kept, append-kept, append-count, take-kept, rewind-kept, cut-count, rewind-count}
-use Rattle.tape.proofs.Tapes.{ShowsTape, on-tape}
+use Rattle.tape.proofs.Steps.{either, Kept, sound-is, append-kept, append-count, take-kept, rewind-kept, cut-count, rewind-count}
+use Rattle.tape.proofs.Tapes.{ShowsTape, on-tape, tape-sound}
 use Rattle.tape.proofs.First.{NewOrder, new-order}
 
 -- what holds of the tape throughout: no more blocks are handed back than it has
@@ -39,6 +39,14 @@ pub record KeptTape (w : ℕ) (t : Tape) : Type 0 where
 plain-kept : (w : ℕ) (s : List ℕ) → Kept s → KeptTape w (plain s)
 unfolding plain
 plain-kept w s kept = record { bytes = kept; upTo = zero-le }
+
+-- the record of its bytes is sound, and so is that of the tape
+pub both-sound : (w n : ℕ) (t : Tape) → isWordSize w ≡ true → isDigestLength w n ≡ true → KeptTape w t
+    → (sound (recordOf w n (t .bytes)) ≡ true) × (sound (tapeRecord w n t) ≡ true)
+both-sound w n t word digest kept = (
+  sound-is w word n digest (t .bytes) (kept .bytes),
+  tape-sound w word n digest (t .bytes) (kept .bytes) (t .begun) (t .number) (kept .upTo),
+)
 
 -- one block more is handed back, and those handed back begin with a block
 more : (w : ℕ) (t : Tape) (size : ℕ) → noBlock (blockBytes (sizeOf w)) (length (t .bytes)) (t .number) size ≡ false → t .number + 1 ≤ wholeBlocks w (t .bytes)

@@ -22,10 +22,8 @@ use Rattle.tape.specs.TapeSteps.{tapeSplit, tapeRecord}
 use Rattle.tape.specs.Calls.{Call}
 use Rattle.tape.specs.First.{First, firstCall}
 use Rattle.tape.specs.Corrected.{orderAfter, tapeAfter, Premise}
-use Rattle.tape.proofs.Steps.{sound-is}
-use Rattle.tape.proofs.Tapes.{tape-sound}
 use Rattle.tape.proofs.First.{new-order}
-use Rattle.tape.proofs.Corrected.{KeptTape, tape-kept, corrected}
+use Rattle.tape.proofs.Corrected.{KeptTape, tape-kept, both-sound, corrected}
 
 -- Close on the record of a tape, and Whole on its bytes, answer and write the same
 tape-receipt : (w n : ℕ) (t : Tape) → isWordSize w ≡ true → isDigestLength w n ≡ true → KeptTape w t → (last e : ℕ) (output : List ℕ)
@@ -35,11 +33,10 @@ unfolding tapeRecord
 tape-receipt w n t word digest kept last e output =
     let m : List ℕ = t .bytes in
     let s : Split = cond (t .begun) (tapeSplit w n m (t .number)) notBegun in
-    let ok : sound (recordOf w n m) ≡ true = sound-is w word n digest m (kept .bytes) in
-    let still : sound (withSplit (recordOf w n m) s) ≡ true = tape-sound w word n digest m (kept .bytes) (t .begun) (t .number) (kept .upTo) in (
-      same-answer-unfinished (recordOf w n m) s ok still last e (length output)
+    let sounds : (sound (recordOf w n m) ≡ true) × (sound (withSplit (recordOf w n m) s) ≡ true) = both-sound w n t word digest kept in (
+      same-answer-unfinished (recordOf w n m) s (sounds .0) (sounds .1) last e (length output)
           ∙ same-answer w n m word last e digest (kept .bytes .few) (length output),
-      same-output-unfinished (recordOf w n m) s ok still last e output
+      same-output-unfinished (recordOf w n m) s (sounds .0) (sounds .1) last e output
           ∙ same-output w n m word last e digest (kept .bytes .few) (kept .bytes .bytes) output,
     )
 

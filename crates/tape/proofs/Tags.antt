@@ -4,8 +4,7 @@ use mathlib.Core.Path.{_≡_, refl, ap, _∙_, subst}
 use mathlib.Core.Bool.{true, cond}
 use mathlib.Core.List.{List, _++_}
 use Prim.Native.Nat.{ℕ}
-use native.Mathlib.Omega.{arith}
-use lib.ListN.{length, length-append}
+use lib.ListN.{length}
 use lib.Seq.{drop-at}
 use Rattle.lsh.proofs.Bytes.{Bytes, bytes-drop}
 use Rattle.record.specs.declared.Record.{Record}
@@ -17,7 +16,7 @@ use Rattle.tag.specs.Tag.{tagAnswer, tagOutput}
 use Rattle.tag.specs.Start.{startCall}
 use Rattle.tag.specs.Finish.{finishAnswer, finishOutput}
 use Rattle.tag.proofs.Answers.{Keyed}
-use Rattle.tag.proofs.Started.{start-accepted, started-length}
+use Rattle.tag.proofs.Started.{start-accepted, keyed-message}
 use Rattle.tag.proofs.Finished.{same-answer, same-output}
 use Rattle.tag.proofs.Unfinished.{finish-answer-unfinished, finish-output-unfinished}
 use Rattle.tape.specs.Tape.{Lent, Tape}
@@ -25,9 +24,8 @@ use Rattle.tape.specs.TapeSteps.{tapeSplit, tapeRecord}
 use Rattle.tape.specs.Calls.{Call}
 use Rattle.tape.specs.First.{Started}
 use Rattle.tape.specs.Corrected.{orderAfter, tapeAfter, Premise}
-use Rattle.tape.proofs.Steps.{Kept, sound-is}
-use Rattle.tape.proofs.Tapes.{tape-sound}
-use Rattle.tape.proofs.Corrected.{KeptTape, tape-kept, corrected}
+use Rattle.tape.proofs.Steps.{Kept}
+use Rattle.tape.proofs.Corrected.{KeptTape, tape-kept, both-sound, corrected}
 
 module _ (w n : ℕ) (key : List ℕ) (lent : Lent) (cs : List Call) (accepted : startCall w n key .number ≡ 0) where
   abbrev T : Tape
@@ -42,12 +40,9 @@ module _ (w n : ℕ) (key : List ℕ) (lent : Lent) (cs : List Call) (accepted :
   first : Keyed w n (length key) 0
   first = start-accepted w n key accepted
 
-  ok : sound (recordOf w n (T .bytes)) ≡ true
-  ok = sound-is w (first .wordSize) n (first .digestLength) (T .bytes) (kept .bytes)
-
-  still : sound (withSplit (recordOf w n (T .bytes)) split) ≡ true
+  sounds : (sound (recordOf w n (T .bytes)) ≡ true) × (sound (withSplit (recordOf w n (T .bytes)) split) ≡ true)
   unfolding tapeRecord
-  still = tape-sound w (first .wordSize) n (first .digestLength) (T .bytes) (kept .bytes) (T .begun) (T .number) (kept .upTo)
+  sounds = both-sound w n T (first .wordSize) (first .digestLength) kept
 
   -- the message m is what the tape has after the key's inner block
   module _ (m : List ℕ) (after : T .bytes ≡ innerKey w n key ++ m) where
@@ -55,14 +50,7 @@ module _ (w n : ℕ) (key : List ℕ) (lent : Lent) (cs : List Call) (accepted :
     both = subst Kept after (kept .bytes)
 
     keyed : Keyed w n (length key) (length m)
-    keyed =
-        record {
-          wordSize = first .wordSize;
-          digestLength = first .digestLength;
-          bytewise = first .bytewise;
-          short = first .short;
-          within = omega (arith, both .few, length-append (innerKey w n key) m, started-length w n key accepted);
-        }
+    keyed = keyed-message w n key accepted m (both .few)
 
     message-bytes : Bytes m
     message-bytes = subst Bytes (drop-at (innerKey w n key) m _ refl) (bytes-drop (length (innerKey w n key)) (innerKey w n key ++ m) (both .bytes))
@@ -74,11 +62,11 @@ module _ (w n : ℕ) (key : List ℕ) (lent : Lent) (cs : List Call) (accepted :
     corrected-tag h output =
         let remains = corrected w n (Started key) lent cs accepted h .remains in (
           ap (λ (r : Record). finishAnswer r (length key) (length output)) remains
-              ∙ finish-answer-unfinished (recordOf w n (T .bytes)) split ok still (length key) (length output)
+              ∙ finish-answer-unfinished (recordOf w n (T .bytes)) split (sounds .0) (sounds .1) (length key) (length output)
               ∙ ap (λ (s : List ℕ). finishAnswer (recordOf w n s) (length key) (length output)) after
               ∙ same-answer w n key m keyed (length output),
           ap (λ (r : Record). finishOutput r key output) remains
-              ∙ finish-output-unfinished (recordOf w n (T .bytes)) split ok still key output
+              ∙ finish-output-unfinished (recordOf w n (T .bytes)) split (sounds .0) (sounds .1) key output
               ∙ ap (λ (s : List ℕ). finishOutput (recordOf w n s) key output) after
               ∙ same-output w n key m keyed message-bytes output,
         )

@@ -1,17 +1,17 @@
 -- `hmac::key_chain` meets its contract. Assumes nothing.
-use mathlib.Core.Path.{_≡_, sym, ap, ap₂, _∙_}
+use mathlib.Core.Path.{_≡_, sym, ap, _∙_}
 use mathlib.Core.List.{List}
 use Prim.Native.Nat.{ℕ}
 use native.Mathlib.Omega.{arith}
-use lib.ListN.{length, take}
+use lib.ListN.{length}
 use lib.Seq.{length-take-le}
 use borrow.Author.Needs.{needs}
-use Rattle.lsh.specs.WordSize.{sizeOf, blockBytes}
+use Rattle.lsh.specs.WordSize.{sizeOf}
 use Rattle.lsh.specs.Block.{forwards}
 use Rattle.lsh.specs.Padding.{blocksOf}
 use Rattle.runs.specs.Limits.{longestBlock}
 use Rattle.runs.proofs.Limits.{block-most}
-use Rattle.hmac.proofs.Keys.{take-xor}
+use Rattle.hmac.proofs.Keys.{xored-front}
 use Rattle.hmac.proofs.key_chain.Statement.{statement}
 use Rattle.hmac.proofs.key_chain.Tie as tie
 
@@ -37,5 +37,4 @@ key-chain-spec =
     let long : length (z .args .block) ≡ longestBlock = search needs in
     f .forward .ensures .0
     ∙ ap (λ (s : List ℕ). forwards (sizeOf (z .args .w)) (blocksOf (sizeOf (z .args .w)) s) (z .args .opened))
-    (ap₂ (λ (k : ℕ) (s : List ℕ). take k s) (x .before .block-bytes .ensures) (x .xor-each .ensures)
-    ∙ take-xor (blockBytes (sizeOf (z .args .w))) (z .args .x) (z .args .block) (omega (arith, block-most (z .args .w))))))
+    (xored-front (z .args .w) (z .args .x) (z .args .block) long (x .before .block-bytes .ensures) (x .xor-each .ensures))))

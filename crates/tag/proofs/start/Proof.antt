@@ -1,13 +1,10 @@
 -- `tag::start` meets its contract. Assumes nothing.
 use mathlib.Core.Path.{_≡_, sym, ap, ap₂, _∙_}
-use mathlib.Core.List.{List}
-use Prim.Native.Nat.{ℕ}
 use native.Mathlib.Omega.{arith}
 use lib.ListN.{length, take}
 use lib.Seq.{length-take-le}
 use borrow.Author.Needs.{needs}
 use borrow.Author.Tests.{eq-eqb, ne-eqb}
-use Rattle.lsh.specs.WordSize.{sizeOf, blockBytes}
 use Rattle.runs.specs.Limits.{longestBlock, limit}
 use Rattle.runs.proofs.Limits.{block-most}
 use Rattle.record.specs.declared.Record.{Record}
@@ -15,7 +12,7 @@ use Rattle.record.specs.Record.{sound}
 use Rattle.record.specs.Open.{opened}
 use Rattle.append.specs.Append.{appendAccepted}
 use Rattle.hmac.specs.Hmac.{innerByte, xorEach, innerKey}
-use Rattle.hmac.proofs.Keys.{take-xor}
+use Rattle.hmac.proofs.Keys.{xored-front}
 use Rattle.tag.specs.Start.{startCall}
 use Rattle.tag.proofs.Answers.{Keyed, keyed}
 use Rattle.tag.proofs.Started.{opened-sound}
@@ -43,8 +40,7 @@ inner-is c =
     let a = c .before .before .before .before .before .before .before .before .args in
     let block = c .before .key-block .result in
     let long : length block ≡ longestBlock = search needs in
-    ap₂ (λ (k : ℕ) (s : List ℕ). take k s) (c .before .before .block-bytes .ensures) (c .xor-each .ensures)
-    ∙ take-xor (blockBytes (sizeOf (a .w))) innerByte block (omega (arith, block-most (a .w)))
+    xored-front (a .w) innerByte block long (c .before .before .block-bytes .ensures) (c .xor-each .ensures)
     ∙ ap (xorEach innerByte) (c .before .key-block .ensures)
 
 pub start-spec : {M : Type 1} → statement M
