@@ -19,15 +19,11 @@ use Rattle.record.proofs.Sound.{Sound, sounds, chain-is}
 use Rattle.checkpoints.specs.Slots.{slotAt}
 use Rattle.checkpoints.specs.Members.{member}
 use Rattle.checkpoints.specs.Roll.{links, shown, checkpoints}
+use Rattle.checkpoints.specs.Checkpoints.{chainsAfter}
 use Rattle.checkpoints.proofs.Form.{roll-of}
 use Rattle.checkpoints.proofs.Shown.{Laid, laid-all}
 use Rattle.append_roll.specs.AppendRoll.{due, appendRollAnswer, checkpointChain, appendedRoll}
 use Rattle.append_roll.proofs.Answers.{Accepted, accepted}
-
--- d chains, those of the numbers after k
-abbrev pub chainsAfter : (ℕ → List ℕ) → ℕ → ℕ → List (List ℕ)
-chainsAfter f k zero = []
-chainsAfter f k (suc d) = chainsAfter f k d ++ f (k + suc d) ∷ []
 
 module _ (r : Record) (words : length (r .chain) ≡ 16) (piece roll : List ℕ) where
   abbrev Z : WordSize

@@ -11,7 +11,8 @@ use Rattle.lsh.specs.Bytes.{wordsOf, bytesOf}
 use Rattle.lsh.specs.Block.{Chain, forward, backward}
 use Rattle.lsh.proofs.Figures.{amounts}
 use Rattle.lsh.proofs.Block.{forward-chain, backward-chain, backward-forward, forward-backward}
-use Rattle.lsh.proofs.Bytes.{Bytes, octets, words-chain, chain-bytes, length-chain, words-of-bytes, bytes-of-words}
+use Rattle.lsh.specs.ByteString.{Bytes}
+use Rattle.lsh.proofs.Bytes.{octets, words-chain, chain-bytes, length-chain, words-of-bytes, bytes-of-words}
 use Rattle.block_call.specs.BlockCall.{blockAnswer, runBytes, forwardBytes, backwardBytes}
 use Rattle.block_call.proofs.Answers.{accepted, refused-run, accepted-run}
 

@@ -1,8 +1,8 @@
 -- Checkpoints laid on a roll, and taken off it.
 -- Assumes nothing.
 use mathlib.Core.Bool.{cond}
-use mathlib.Core.List.{List, _∷_}
-use Prim.Native.Nat.{ℕ, zero, suc}
+use mathlib.Core.List.{List, [], _∷_, _++_}
+use Prim.Native.Nat.{ℕ, zero, suc, _+_}
 use lib.Dec.{ltb}
 use lib.ListN.{length}
 use lib.Seq.{sets}
@@ -33,7 +33,12 @@ taken z s = freeSlot (slotCount z (length s)) (links z s)
 unfoldable pub laid : WordSize → List ℕ → List ℕ → List ℕ
 laid z t s = withIndex z (withSlot z s (taken z s) t) (leadTo z s (length (links z s))) (taken z s)
 
--- d checkpoints are laid, with the chains of the numbers after k
+-- the chains of the d numbers after k
+abbrev pub chainsAfter : (ℕ → List ℕ) → ℕ → ℕ → List (List ℕ)
+chainsAfter chain k zero = []
+chainsAfter chain k (suc d) = chainsAfter chain k d ++ chain (k + suc d) ∷ []
+
+-- d checkpoints are laid, with these chains
 abbrev pub laidAfter : WordSize → (ℕ → List ℕ) → ℕ → ℕ → List ℕ → List ℕ
 laidAfter z chain k zero s = s
 laidAfter z chain k (suc d) s = laidAfter z chain (suc k) d (laid z (chain (suc k)) s)

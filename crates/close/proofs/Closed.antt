@@ -10,7 +10,7 @@ use Rattle.lsh.specs.Block.{forwards}
 use Rattle.lsh.specs.Bits.{bytesOfBits}
 use Rattle.lsh.specs.Padding.{padded, blocksOf}
 use Rattle.lsh.specs.Hash.{digest}
-use Rattle.lsh.proofs.Bytes.{Bytes}
+use Rattle.lsh.specs.ByteString.{Bytes}
 use Rattle.lsh.proofs.Figures.{block-some}
 use Rattle.message.proofs.Padded.{padded-bytes}
 use Rattle.runs.specs.Limits.{longestBlock}

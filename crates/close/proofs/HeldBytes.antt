@@ -7,7 +7,8 @@ use native.Mathlib.Omega.{arith}
 use lib.ListN.{length}
 use Rattle.lsh.specs.WordSize.{sizeOf, blockBytes}
 use Rattle.lsh.specs.Block.{Chain}
-use Rattle.lsh.proofs.Bytes.{Bytes, bytes-take}
+use Rattle.lsh.specs.ByteString.{Bytes}
+use Rattle.lsh.proofs.Bytes.{bytes-take}
 use Rattle.runs.specs.Limits.{longestBlock}
 use Rattle.record.specs.declared.Record.{Record}
 use Rattle.record.specs.Record.{heldLength, sound, heldBytes}

@@ -17,7 +17,7 @@ use Rattle.lsh.specs.Bits.{bitsOfByte, bytesOfBits}
 use Rattle.lsh.specs.Padding.{padded, blocksOf, restOf}
 use Rattle.lsh.specs.Hash.{digest, hash, lsh}
 use Rattle.lsh.proofs.Figures.{block-some}
-use Rattle.lsh.proofs.Bytes.{Bytes}
+use Rattle.lsh.specs.ByteString.{Bytes}
 use Rattle.lsh.proofs.Blocks.{forwards-append}
 use Rattle.lsh.proofs.Padding.{length-rest, rest-bytes, blocks-append}
 use Rattle.message.proofs.Padded.{padded-rest}

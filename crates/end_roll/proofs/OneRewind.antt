@@ -9,12 +9,13 @@ use Rattle.lsh.specs.WordSize.{sizeOf}
 use Rattle.record.specs.declared.Record.{Record}
 use Rattle.record.specs.declared.Outcome.{Outcome}
 use Rattle.record.specs.Record.{withSplit, refused}
+use Rattle.record.specs.Arrays.{Arrays}
 use Rattle.checkpoints.specs.Roll.{checkpoints, isRollOf}
 use Rattle.checkpoints.specs.Checkpoints.{unlinked}
 use Rattle.rewind.specs.Rewind.{rewindCall}
 use Rattle.split_rewind.specs.End.{endCall}
 use Rattle.split_rewind.specs.OneRewind.{afterSteps, StepsAccepted, answeredOn, joined}
-use Rattle.split_rewind.proofs.OneRewind.{Arrays, begin-is, x-sound, x-begun, as-before, one-rewind}
+use Rattle.split_rewind.proofs.OneRewind.{begin-is, x-sound, x-begun, as-before, one-rewind}
 use Rattle.rewind_roll.specs.RewindRoll.{rewindRollCall, cutRoll, rewoundRoll}
 use Rattle.end_roll.specs.EndRoll.{endRollCall, endedRoll}
 use Rattle.end_roll.specs.AsOneRewind.{AsOneRewind}

@@ -20,7 +20,8 @@ use Rattle.lsh.proofs.Word.{xor-lt}
 use Rattle.lsh.proofs.Tabulate.{length-tabulate, at-tabulate, tabulate-ext, tabulate-cong, tabulate-all}
 use Rattle.lsh.proofs.Figures.{of-both, bits-are}
 use Rattle.lsh.proofs.Opening.{at-zeros}
-use Rattle.lsh.proofs.Bytes.{Bytes, Octets, octets, length-chain}
+use Rattle.lsh.specs.ByteString.{Bytes}
+use Rattle.lsh.proofs.Bytes.{Octets, octets, length-chain}
 
 xor-zeros : (w : ℕ) → xor w 0 0 ≡ 0
 unfolding xor

@@ -14,7 +14,8 @@ use Rattle.lsh.specs.Bits.{bitsOf, bytesOfBits}
 use Rattle.lsh.specs.Padding.{padded, blocksOf}
 use Rattle.lsh.specs.Hash.{digest, hash, lsh}
 use Rattle.lsh.proofs.Figures.{block-some}
-use Rattle.lsh.proofs.Bytes.{Bytes, bytes-append}
+use Rattle.lsh.specs.ByteString.{Bytes}
+use Rattle.lsh.proofs.Bytes.{bytes-append}
 use Rattle.lsh.proofs.Padding.{length-rest, blocks-short}
 use Rattle.lsh.proofs.Splitting.{forwards-split, rest-split}
 use Rattle.message.proofs.Padded.{padded-bytes}

@@ -19,7 +19,7 @@ use Rattle.lsh.specs.Padding.{blocksOf}
 use Rattle.lsh.proofs.Figures.{bits-are}
 use Rattle.lsh.proofs.Word.{xor-lt}
 use Rattle.lsh.proofs.Tabulate.{length-tabulate, at-tabulate, tabulate-ext, tabulate-all}
-use Rattle.lsh.proofs.Bytes.{Bytes}
+use Rattle.lsh.specs.ByteString.{Bytes}
 use Rattle.runs.specs.Limits.{longestBlock, isDigestLength}
 use Rattle.runs.specs.ZeroFilled.{zeroFilled}
 use Rattle.runs.proofs.Limits.{block-most, digest-most}

@@ -4,9 +4,9 @@
 use mathlib.Core.Path.{_≡_, refl, sym, ap, _∙_}
 use mathlib.Core.List.{List, [], _∷_, _++_}
 use Prim.Native.Nat.{ℕ}
-use Rattle.lsh.specs.WordSize.{WordSize}
+use Rattle.lsh.specs.WordSize.{WordSize, sizeOf}
 use Rattle.lsh.specs.Block.{Chain, forward, backward, forwards, backwards}
-use Rattle.lsh.proofs.Figures.{Amounts}
+use Rattle.lsh.proofs.Figures.{Amounts, amounts}
 use Rattle.lsh.proofs.Block.{forward-chain, backward-chain, backward-forward, forward-backward}
 
 module _ (z : WordSize) (ok : Amounts z) where
@@ -35,8 +35,14 @@ module _ (z : WordSize) (ok : Amounts z) where
   pub only-chain : (bs : List (List ℕ)) (t u : List ℕ) → Chain z t → forwards z bs t ≡ u → t ≡ backwards z bs u
   only-chain bs t u h e = sym (backwards-forwards bs t h) ∙ ap (backwards z bs) e
 
-  pub never-meet : (bs : List (List ℕ)) (t u : List ℕ) → Chain z t → Chain z u → (t ≡ u → ⊥) → forwards z bs t ≡ forwards z bs u → ⊥
-  never-meet bs t u ht hu differ meet = differ (only-chain bs t (forwards z bs u) ht meet ∙ backwards-forwards bs u hu)
+-- at both word sizes: chains that are equal after the same blocks were equal before them, and so chains that differ never meet
+module _ (w : ℕ) (bs : List (List ℕ)) (t u : List ℕ) (ht : Chain (sizeOf w) t) (hu : Chain (sizeOf w) u) where
+  pub equal-before : forwards (sizeOf w) bs t ≡ forwards (sizeOf w) bs u → t ≡ u
+  equal-before meet =
+      only-chain (sizeOf w) (amounts w) bs t (forwards (sizeOf w) bs u) ht meet ∙ backwards-forwards (sizeOf w) (amounts w) bs u hu
+
+  pub never-meet : (t ≡ u → ⊥) → forwards (sizeOf w) bs t ≡ forwards (sizeOf w) bs u → ⊥
+  never-meet differ meet = differ (equal-before meet)
 
 pub forwards-append : (z : WordSize) (cs bs : List (List ℕ)) (t : List ℕ) → forwards z (cs ++ bs) t ≡ forwards z bs (forwards z cs t)
 unfolding forwards

@@ -12,6 +12,7 @@ use lib.Seq.{getD-drop}
 use Rattle.lsh.specs.Tabulate.{at}
 use Rattle.lsh.specs.WordSize.{WordSize, lsh256, lsh512, sizeOf, wordBytes, chainBytes}
 use Rattle.lsh.specs.Bytes.{wordAt, wordsOf, byteAt, bytesOf}
+use Rattle.lsh.specs.ByteString.{Bytes}
 use Rattle.lsh.specs.Block.{Chain}
 use Rattle.lsh.proofs.Figures.{of-both}
 use Rattle.lsh.proofs.Tabulate.{length-tabulate, at-tabulate, tabulate-ext}
@@ -32,10 +33,6 @@ octets512 = record { some = omega arith; whole = refl }
 
 pub octets : (w : ℕ) → Octets (sizeOf w)
 octets = of-both Octets octets256 octets512
-
--- each place of a byte string is below 256 (a place past the end reads as 0)
-abbrev pub Bytes : List ℕ → Type 0
-Bytes s = (i : ℕ) → at s i < 256
 
 -- bytes joined and cut are bytes
 pub bytes-append : (s p : List ℕ) → Bytes s → Bytes p → Bytes (s ++ p)

@@ -11,7 +11,8 @@ use lib.Seq.{drop-drop, take-all, take-append-le, drop-append-le}
 use Rattle.lsh.specs.WordSize.{WordSize, blockBytes}
 use Rattle.lsh.specs.Bytes.{wordsOf}
 use Rattle.lsh.specs.Padding.{firstBlocks, blocksOf, restOf}
-use Rattle.lsh.proofs.Bytes.{Bytes, bytes-drop}
+use Rattle.lsh.specs.ByteString.{Bytes}
+use Rattle.lsh.proofs.Bytes.{bytes-drop}
 
 -- block k of a byte string
 abbrev pub blockAt : WordSize → List ℕ → ℕ → List ℕ

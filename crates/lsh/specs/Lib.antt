@@ -13,3 +13,4 @@ pub mod Opening
 pub mod Bits
 pub mod Padding
 pub mod Hash
+pub mod Bench

@@ -4,16 +4,16 @@ use mathlib.Core.Path.{_≡_, refl, sym, ap, ap₂, _∙_}
 use mathlib.Core.Bool.{Bool, true, false}
 use mathlib.Core.List.{List, [], _∷_, _++_}
 use Prim.Native.Nat.{ℕ, zero, suc, _+_, _-_, _*_, _/_, _%_, _^_, _≤_, _<_}
-use native.Mathlib.Nat.{add-comm, sub-zero, zero-sub, suc-sub-suc, mod-eq-of-lt}
+use native.Mathlib.Nat.{add-comm, suc-add, sub-zero, zero-sub, suc-sub-suc, zero-mod, mod-eq-of-lt, mul-add-mod-self-right}
 use native.Mathlib.Omega.{arith}
-use lib.Pow.{mod-pow-add}
+use lib.Pow.{pow-add, mod-pow-add}
 use lib.Dec.{eqb}
 use lib.ListN.{length, take, drop, replicate, length-append, length-replicate, getD-replicate, length-drop}
 use lib.Seq.{length-take-le, drop-append-add, drop-drop}
 use Rattle.lsh.specs.Tabulate.{at}
 use Rattle.lsh.specs.Bits.{bit, bitsOfByte, bitsOf, numberOf, bytesOfBits}
 use Rattle.lsh.proofs.Tabulate.{length-tabulate, at-tabulate, tabulate-ext}
-use Rattle.lsh.proofs.Bytes.{Bytes}
+use Rattle.lsh.specs.ByteString.{Bytes}
 
 -- the k low bits of x, the highest first
 unfoldable lowBits : ℕ → ℕ → List Bool
@@ -98,6 +98,17 @@ unfolding numberOf
 number-zeros zero k = refl
 number-zeros (suc n) zero = refl
 number-zeros (suc n) (suc k) = number-zeros n k
+
+-- bits that are not there count as 0, so the low places of the number are 0
+pub low-zero : (m : List Bool) (k : ℕ) → numberOf (length m + k) m % 2 ^ k ≡ 0
+unfolding numberOf
+low-zero [] k = ap (λ (x : ℕ). x % 2 ^ k) (number-zeros (0 + k) 0) ∙ zero-mod (2 ^ k)
+low-zero (true ∷ m) k =
+    ap (λ (j : ℕ). numberOf j (true ∷ m) % 2 ^ k) (suc-add (length m) k)
+    ∙ ap (λ (x : ℕ). (x + numberOf (length m + k) m) % 2 ^ k) (pow-add 2 (length m) k)
+    ∙ mul-add-mod-self-right (2 ^ length m) (2 ^ k) (numberOf (length m + k) m)
+    ∙ low-zero m k
+low-zero (false ∷ m) k = ap (λ (j : ℕ). numberOf j (false ∷ m) % 2 ^ k) (suc-add (length m) k) ∙ low-zero m k
 
 bytes-zeros : (j : ℕ) → bytesOfBits (replicate (8 * j) false) ≡ replicate j 0
 unfolding bytesOfBits

@@ -13,7 +13,7 @@ use lib.Seq.{length-take-le, take-nil, take-append-le, take-append-add, drop-nil
 use Rattle.lsh.specs.Tabulate.{at, tabulate}
 use Rattle.lsh.specs.Bits.{bitsOfByte, bitsOf, numberOf, bytesOfBits}
 use Rattle.lsh.proofs.Tabulate.{tabulate-cong}
-use Rattle.lsh.proofs.Bytes.{Bytes}
+use Rattle.lsh.specs.ByteString.{Bytes}
 use Rattle.message.proofs.Bits.{drop-byte, length-bits, number-byte, number-whole, number-zeros}
 
 drop-take : (k n : ℕ) (m : List Bool) → drop k (take n m) ≡ take (n - k) (drop k m)

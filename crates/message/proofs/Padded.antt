@@ -12,7 +12,7 @@ use lib.Seq.{length-take-le}
 use Rattle.lsh.specs.WordSize.{WordSize, blockBytes}
 use Rattle.lsh.specs.Bits.{bitsOfByte, bitsOf, bytesOfBits}
 use Rattle.lsh.specs.Padding.{blockBits, blockCount, padded}
-use Rattle.lsh.proofs.Bytes.{Bytes}
+use Rattle.lsh.specs.ByteString.{Bytes}
 use Rattle.message.proofs.Bits.{length-bits, bytes-of-bits, bytes-last}
 
 -- the zeros after the bit 1: those that end its byte, and whole bytes to the end of the block

@@ -1,4 +1,5 @@
 pub mod Lists
 pub mod Split
 pub mod Record
+pub mod Arrays
 pub mod Open

@@ -1,8 +1,8 @@
 -- The record of an order: when it is sound, the bytes it holds, and the record of a byte string; and the answer to a refused call.
 -- Assumes nothing.
 use mathlib.Core.Bool.{Bool, _&&_}
-use mathlib.Core.List.{List}
-use Prim.Native.Nat.{ℕ, _%_, _^_}
+use mathlib.Core.List.{List, []}
+use Prim.Native.Nat.{ℕ, _*_, _%_, _^_}
 use lib.Dec.{eqb, leb}
 use lib.ListN.{length, take, drop, replicate}
 use Rattle.lsh.specs.WordSize.{isWordSize, sizeOf, blockBytes}
@@ -59,6 +59,11 @@ recordOf w n m =
       held = heldOf (restOf (sizeOf w) m);
       split = notBegun;
     }
+
+-- the record of an order of k whole blocks whose chain is t, as it is made of a checkpoint
+unfoldable pub recordAt : ℕ → ℕ → ℕ → List ℕ → Record
+recordAt w n k t =
+    record { w = w; n = n; total = k * blockBytes (sizeOf w); chain = t; held = heldOf []; split = notBegun }
 
 -- the record with another split rewind, the rest as it is
 unfoldable pub withSplit : Record → Split → Record

@@ -8,7 +8,7 @@ use native.Mathlib.Omega.{arith}
 use borrow.Author.Tests.{not-false}
 use lib.ListN.{length}
 use Rattle.lsh.specs.WordSize.{WordSize, sizeOf, blockBytes}
-use Rattle.lsh.specs.Block.{Chain, forwards}
+use Rattle.lsh.specs.Block.{Chain}
 use Rattle.lsh.specs.Padding.{blocksOf}
 use Rattle.lsh.proofs.Figures.{amounts}
 use Rattle.lsh.proofs.Blocks.{backwards-chain, forwards-backwards, only-chain}
@@ -17,6 +17,7 @@ use Rattle.record.specs.declared.Outcome.{Outcome}
 use Rattle.record.specs.Record.{sound, isBegun, refused}
 use Rattle.record.proofs.Sound.{Sound, sounds, chain-is}
 use Rattle.rewind.specs.Rewind.{startsOffBlock, keepsTooMuch, heldDiffers, reached, openingDiffers, rewound, woundBack, rewindCall}
+use Rattle.rewind.specs.OnlyChain.{OnlyChain}
 
 -- a call that was accepted passed every test
 through : (a b c d e f : Bool) (r : Record) (o : Outcome)
@@ -30,12 +31,6 @@ through false false false true _ _ r o e = absurd (omega arith)
 through false false true _ _ _ r o e = absurd (omega arith)
 through false true _ _ _ _ r o e = absurd (omega arith)
 through true _ _ _ _ _ r o e = absurd (omega arith)
-
--- of a chain c: the blocks of h lead from it to the record's chain, and from no other chain
-pub record OnlyChain (r : Record) (h c : List ℕ) : Type 0 where
-  pub chain : Chain (sizeOf (r .w)) c
-  pub leads : forwards (sizeOf (r .w)) (blocksOf (sizeOf (r .w)) h) c ≡ r .chain
-  pub only : (d : List ℕ) → Chain (sizeOf (r .w)) d → forwards (sizeOf (r .w)) (blocksOf (sizeOf (r .w)) h) d ≡ r .chain → d ≡ c
 
 -- a record's chain has 16 words, by its type
 pub only-reached : (r : Record) (keep : ℕ) (h : List ℕ) → length (r .chain) ≡ 16 → rewindCall r keep h .number ≡ 0 → OnlyChain r h (rewindCall r keep h .next .chain)

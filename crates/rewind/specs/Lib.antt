@@ -1,1 +1,2 @@
 pub mod Rewind
+pub mod OnlyChain

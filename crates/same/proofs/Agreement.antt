@@ -10,7 +10,7 @@ use lib.Dec.{eqb}
 use lib.ListN.{length, take}
 use Rattle.lsh.specs.Bits.{bitsOf}
 use Rattle.lsh.proofs.Tests.{and-true}
-use Rattle.lsh.proofs.Bytes.{Bytes}
+use Rattle.lsh.specs.ByteString.{Bytes}
 use Rattle.equal.specs.Equal.{equal}
 use Rattle.equal.proofs.Equal.{equal-self, equal-true}
 use Rattle.finalization.specs.Receipt.{receiptBytes, receipt}

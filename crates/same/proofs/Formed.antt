@@ -16,7 +16,8 @@ use Rattle.lsh.specs.Bytes.{wordAt, byteAt}
 use Rattle.lsh.specs.Bits.{bitsOf, bytesOfBits}
 use Rattle.lsh.proofs.Tests.{and-true}
 use Rattle.lsh.proofs.Tabulate.{tabulate-ext}
-use Rattle.lsh.proofs.Bytes.{Bytes, bytes-take, bytes-drop, byte-word}
+use Rattle.lsh.specs.ByteString.{Bytes}
+use Rattle.lsh.proofs.Bytes.{bytes-take, bytes-drop, byte-word}
 use Rattle.message.proofs.Digest.{digest-bytes}
 use Rattle.runs.specs.Limits.{longestDigest, isDigestLength}
 use Rattle.runs.specs.ZeroFilled.{zeroFilled}

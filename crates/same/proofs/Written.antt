@@ -4,10 +4,8 @@ use mathlib.Core.Path.{_≡_, refl, sym, ap, _∙_, subst}
 use mathlib.Core.Bool.{Bool, true, false}
 use mathlib.Core.List.{List, [], _∷_, _++_}
 use Prim.Native.Nat.{ℕ, suc, _+_, _-_, _*_, _/_, _%_, _^_, _≤_, _<_}
-use native.Mathlib.Nat.{zero-mod, suc-add, mul-add-mod-self-right}
 use native.Mathlib.Omega.{arith}
 use borrow.Author.Tests.{eq-eqb, eqb-false, le-leb}
-use lib.Pow.{pow-add}
 use lib.Dec.{eqb}
 use lib.ListN.{length, take, drop, replicate, length-append, length-drop, List·getD-append}
 use lib.Seq.{length-take-le, take-at, take-append-le, getD-append-add}
@@ -19,7 +17,7 @@ use Rattle.lsh.specs.Hash.{finalBytes, digest, hash, lsh}
 use Rattle.lsh.proofs.Tabulate.{length-tabulate, at-tabulate}
 use Rattle.lsh.proofs.Figures.{bits-are}
 use Rattle.lsh.proofs.Bytes.{octets, word-bytes}
-use Rattle.message.proofs.Bits.{length-bits, number-zeros}
+use Rattle.message.proofs.Bits.{length-bits, low-zero}
 use Rattle.runs.specs.Limits.{longestDigest, isDigestLength, limit}
 use Rattle.runs.proofs.Limits.{digest-most, digest-longest}
 use Rattle.runs.proofs.Zeros.{filled-length}
@@ -38,26 +36,7 @@ use Rattle.close.proofs.Answers as close-answers
 use Rattle.same.specs.Parts.{wordSizeOf, digestLengthOf, digestOf, bitLengthOf}
 use Rattle.same.specs.WellFormed.{unusedZero, zeroAfter, wellFormed}
 use Rattle.same.specs.Same.{isReceiptLong}
-
--- the bits that are not there count as 0
-low-zero : (m : List Bool) (k : ℕ) → numberOf (length m + k) m % 2 ^ k ≡ 0
-unfolding numberOf
-low-zero [] k = ap (λ (x : ℕ). x % 2 ^ k) (number-zeros (0 + k) 0) ∙ zero-mod (2 ^ k)
-low-zero (true ∷ m) k =
-    ap (λ (j : ℕ). numberOf j (true ∷ m) % 2 ^ k) (suc-add (length m) k)
-    ∙ ap (λ (x : ℕ). (x + numberOf (length m + k) m) % 2 ^ k) (pow-add 2 (length m) k)
-    ∙ mul-add-mod-self-right (2 ^ length m) (2 ^ k) (numberOf (length m + k) m)
-    ∙ low-zero m k
-low-zero (false ∷ m) k = ap (λ (j : ℕ). numberOf j (false ∷ m) % 2 ^ k) (suc-add (length m) k) ∙ low-zero m k
-
--- r is well formed, and of this word size, digest and message length
-pub record Written (w n : ℕ) (d : List Bool) (bits : ℕ) (r : List ℕ) : Type 0 where
-  pub long : isReceiptLong r ≡ true
-  pub form : wellFormed r ≡ true
-  pub wordSize : wordSizeOf r ≡ w
-  pub digestLength : digestLengthOf r ≡ n
-  pub digest : digestOf r ≡ bytesOfBits d
-  pub bitLength : bitLengthOf r ≡ bits
+use Rattle.same.specs.Written.{Written}
 
 module _ (w n : ℕ) (d : List Bool) (bits : ℕ) (word : isWordSize w ≡ true) (digestLength : isDigestLength w n ≡ true) (size : length d ≡ n) (few : bits ≤ mostBits) where
   abbrev bytes : List ℕ

@@ -1,3 +1,4 @@
 pub mod Parts
 pub mod WellFormed
 pub mod Same
+pub mod Written

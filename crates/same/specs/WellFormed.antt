@@ -3,11 +3,12 @@
 use mathlib.Core.Path.{_≡_}
 use mathlib.Core.Bool.{Bool, true, _&&_, _||_}
 use mathlib.Core.List.{List}
-use Prim.Native.Nat.{ℕ, _+_, _-_, _/_, _%_, _^_, _<_}
+use Prim.Native.Nat.{ℕ, _+_, _-_, _/_, _%_, _^_}
 use lib.Dec.{eqb, leb}
 use lib.ListN.{length, take, drop}
 use Rattle.lsh.specs.Tabulate.{at}
 use Rattle.lsh.specs.WordSize.{isWordSize}
+use Rattle.lsh.specs.ByteString.{Bytes}
 use Rattle.runs.specs.Limits.{isDigestLength}
 use Rattle.finalization.specs.Receipt.{receiptBytes, digestPlace, lengthPlace}
 use Rattle.finalization.specs.Ending.{mostBits}
@@ -32,8 +33,8 @@ wellFormed r =
     && zeroAfter r (digestLengthOf r)
     && leb (bitLengthOf r) mostBits
 
--- r is a well-formed receipt: as many bytes as a receipt has (a place past the end reads as 0), in its form
+-- r is a well-formed receipt: as many bytes as a receipt has, in its form
 pub record IsReceipt (r : List ℕ) : Type 0 where
   pub long : length r ≡ receiptBytes
-  pub bytes : (i : ℕ) → at r i < 256
+  pub bytes : Bytes r
   pub form : wellFormed r ≡ true

@@ -1,6 +1,5 @@
 -- A begin and the hand-backs after it that are accepted: the record is that of the order before them but for how far the rewind is, Abandon gives it
--- back, and the end is that of one Rewind over their bytes, joined as in the order. By their types a record's chains have 16 words each, and the held bytes
--- and those handed back last have as many places as a block has bytes at most.
+-- back, and the end is that of one Rewind over their bytes, joined as in the order.
 -- Assumes nothing.
 use mathlib.Core.Path.{_≡_, refl, sym, ap, _∙_, subst}
 use mathlib.Core.Bool.{Bool, true, false, not, cond}
@@ -27,6 +26,7 @@ use Rattle.record.specs.declared.Split.{Split}
 use Rattle.record.specs.declared.Outcome.{Outcome}
 use Rattle.record.specs.Split.{notBegun}
 use Rattle.record.specs.Record.{heldOf, heldLength, heldBytes, sound, isBegun, withSplit, stepped, refused}
+use Rattle.record.specs.Arrays.{Arrays}
 use Rattle.record.proofs.Sound.{Sound, sounds, chain-is, chain-below}
 use Rattle.record.proofs.Begun.{OneBegun, one-begun-sound, with-sound, none-is}
 use Rattle.record.proofs.Strings.{filled-zero}
@@ -59,13 +59,6 @@ block-through true true false r s e = (refl, refl)
 block-through true true true r s e = absurd (omega arith)
 block-through true false c r s e = absurd (omega arith)
 block-through false b c r s e = absurd (omega arith)
-
--- what the types of a record's arrays say
-pub record Arrays (r : Record) : Type 0 where
-  pub words : length (r .chain) ≡ 16
-  pub long : length (r .held) ≡ longestBlock
-  pub secondWords : length (r .split .second) ≡ 16
-  pub backLong : length (r .split .back) ≡ longestBlock
 
 module _ (r : Record) (arrays : Arrays r) (ok : sound r ≡ true) (idle : isBegun r ≡ false) where
   abbrev Z : WordSize

@@ -10,7 +10,8 @@ use lib.ListN.{length, length-append}
 use Rattle.lsh.specs.WordSize.{isWordSize}
 use Rattle.lsh.specs.Bits.{bitsOf, bytesOfBits}
 use Rattle.lsh.specs.Hash.{lsh}
-use Rattle.lsh.proofs.Bytes.{Bytes, bytes-append}
+use Rattle.lsh.specs.ByteString.{Bytes}
+use Rattle.lsh.proofs.Bytes.{bytes-append}
 use Rattle.runs.specs.Limits.{limit}
 use Rattle.record.specs.declared.Record.{Record}
 use Rattle.record.specs.Record.{sound, recordOf}

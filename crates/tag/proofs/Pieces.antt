@@ -8,9 +8,9 @@ use native.Mathlib.Omega.{arith}
 use borrow.Author.Tests.{ltb-true, ltb-false}
 use lib.Dec.{eqb, ltb}
 use lib.ListN.{length, length-append}
-use Rattle.lsh.specs.ByteString.{ByteString}
+use Rattle.lsh.specs.ByteString.{Bytes, ByteString}
 use Rattle.lsh.specs.WordSize.{isWordSize}
-use Rattle.lsh.proofs.Bytes.{Bytes, bytes-append}
+use Rattle.lsh.proofs.Bytes.{bytes-append}
 use Rattle.runs.specs.Limits.{isDigestLength, limit}
 use Rattle.record.specs.declared.Record.{Record}
 use Rattle.record.specs.declared.Outcome.{Outcome}

@@ -5,7 +5,7 @@ use mathlib.Core.Bool.{Bool}
 use mathlib.Core.List.{List}
 use Prim.Native.Nat.{ℕ}
 use lib.Dec.{eqb}
-use Rattle.same.proofs.Written.{Written}
+use Rattle.same.specs.Written.{Written}
 use Rattle.tally.specs.Kinds.{isBlank}
 
 -- a receipt that Whole or Close writes is a blank if its message has no bits, and only then

@@ -9,7 +9,8 @@ use native.Mathlib.Numerals.{add-one}
 use native.Mathlib.Decide.{ℕ-discrete}
 use native.Mathlib.Omega.{arith}
 use lib.ListN.{drop}
-use Rattle.lsh.proofs.Bytes.{Bytes, bytes-take, bytes-drop}
+use Rattle.lsh.specs.ByteString.{Bytes}
+use Rattle.lsh.proofs.Bytes.{bytes-take, bytes-drop}
 use Rattle.finalization.specs.Receipt.{receiptBytes}
 use Rattle.same.specs.WellFormed.{wellFormed, IsReceipt}
 use Rattle.tally.specs.Tally.{receiptCount, receiptAt, firstMalformed}

@@ -1,11 +1,12 @@
 -- Demand 3: after every list of Append and Rewind calls and steps of split rewinds on a newly opened record or a newly started tag, with a roll in all of
--- them or in none, refused ones included, the answers with their counts are the tape's, the record is that of the tape, the roll shows the tape's chains, and the blocks run forward
--- are those run backward and the whole blocks that remain.
+-- them or in none, refused ones included, the answers with their counts are the tape's, the record is that of the tape, the roll shows the tape's chains,
+-- and the blocks run forward are those run backward and the whole blocks that remain. For a newly opened record this is said without the other beginning.
 -- Assumes nothing.
 use mathlib.Core.Path.{_≡_, refl, sym, ap, _∙_, subst}
-use mathlib.Core.Bool.{true, false, not}
+use mathlib.Core.Bool.{true, false, not, cond}
 use mathlib.Core.List.{List, [], _∷_, _++_}
 use Prim.Native.Nat.{ℕ, _+_, _-_, _≤_, zero-le}
+use native.Mathlib.Nat.{zero-div}
 use native.Mathlib.Omega.{arith}
 use lib.Dec.{eqb, ltb}
 use lib.ListN.{length}
@@ -13,6 +14,7 @@ use Rattle.lsh.specs.WordSize.{isWordSize, sizeOf, blockBytes}
 use Rattle.runs.specs.Limits.{isDigestLength, limit}
 use Rattle.record.specs.declared.Record.{Record}
 use Rattle.record.specs.Record.{sound, heldLength, recordOf, withSplit}
+use Rattle.record.specs.Open.{openCall}
 use Rattle.rewind.specs.Rewind.{startsOffBlock, keepsTooMuch}
 use Rattle.rewind.proofs.Lengths.{OnBlock, keeps-few}
 use Rattle.split_rewind.specs.HandBack.{noBlock}
@@ -23,9 +25,11 @@ use Rattle.tape.specs.Sequence.{Given, answers}
 use Rattle.tape.specs.Tape.{Lent, NoRoll, Roll, Tape, plain, wholeBlocks, tooManyBlocks, stays, plainly, tapeAppend, tapeCut, tapeRewind}
 use Rattle.tape.specs.TapeSteps.{taken, moved, tapeBegin, tapeHandBack, tapeHanded, tapeEnd, tapeAbandon, tapeRecord}
 use Rattle.tape.specs.Calls.{Call, Append, Rewind, Begin, HandBack, End, Abandon, Order, orderCall, tapeCall, HandsBack, forwardCount, backwardCount}
-use Rattle.tape.specs.First.{First, firstCall, firstBytes}
 use Rattle.tape.specs.TapeRoll.{tapeChains, RollShows, lentRoll}
-use Rattle.tape.specs.Corrected.{newOrder, orderAfter, orderAnswers, tapeAfter, tapeAnswers, Premise, Corrected, byLength, allByLength}
+use Rattle.tape.specs.Orders.{newOrder, orderAfter, orderAnswers, tapeAfter, tapeAnswers, Premise}
+use Rattle.tape.specs.Corrected.{Corrected}
+use Rattle.tape.specs.ByLength.{byLength, allByLength}
+use Rattle.tape.specs.First.{First, Opened, firstCall, firstBytes, CorrectedFrom}
 use Rattle.tape.proofs.Simulation.{Follows, good-after, calls-follow, counts}
 use Rattle.tape.proofs.Steps.{either, Kept, sound-is, append-kept, append-count, take-kept, rewind-kept, cut-count, rewind-count}
 use Rattle.tape.proofs.Tapes.{ShowsTape, on-tape, tape-sound}
@@ -116,33 +120,39 @@ call-count w word lent t (End keep) kept =
 call-count w word lent t Abandon kept = either (Counts w t Abandon) (not (t .begun)) (λ idle. refl) (λ begun. refl)
 
 -- the numbers that the tape gives
-abbrev ByLength : {S : Type 0} → Given S → Type 0
-ByLength g = byLength (g .answer .number) ≡ true
+abbrev ByLength : {S : Type 0} → Lent → Given S → Type 0
+ByLength lent g = byLength lent (g .answer .number) ≡ true
 
-call-by-length : (w : ℕ) (lent : Lent) (t : Tape) (c : Call) → ByLength (tapeCall w lent t c)
+-- 16 only with a roll
+full-by-length : (lent : Lent) (blocks : ℕ) {S : Type 0} (s : S) {g : Given S} → ByLength lent g → ByLength lent (cond (tooManyBlocks lent blocks) (stays 16 s) g)
+unfolding byLength stays
+full-by-length NoRoll blocks s room = room
+full-by-length (Roll slots) blocks s {g} room = either (ByLength (Roll slots)) (tooManyBlocks (Roll slots) blocks) (λ full. refl) (λ fits. room)
+
+call-by-length : (w : ℕ) (lent : Lent) (t : Tape) (c : Call) → ByLength lent (tapeCall w lent t c)
 unfolding byLength tapeAppend tapeRewind tapeCut stays plainly taken moved tapeBegin tapeHandBack tapeEnd tapeAbandon
 call-by-length w lent t (Append piece) =
-    either ByLength (t .begun) (λ begun. refl)
+    either (ByLength lent) (t .begun) (λ begun. refl)
     (λ idle.
-    either ByLength (ltb limit (length (t .bytes) + length (piece .list))) (λ over. refl)
-    (λ within. either ByLength (tooManyBlocks lent (wholeBlocks w (t .bytes ++ piece .list))) (λ full. refl) (λ room. refl)))
+    either (ByLength lent) (ltb limit (length (t .bytes) + length (piece .list))) (λ over. refl)
+    (λ within. full-by-length lent (wholeBlocks w (t .bytes ++ piece .list)) (t .bytes) refl))
 call-by-length w lent t (Rewind keep h) =
-    either ByLength (t .begun) (λ begun. refl)
+    either (ByLength lent) (t .begun) (λ begun. refl)
     (λ idle.
-    either ByLength (startsOffBlock (blockBytes (sizeOf w)) (length (t .bytes)) (length (h .list))) (λ off. refl)
-    (λ on. either ByLength (keepsTooMuch (blockBytes (sizeOf w)) keep (length (h .list))) (λ much. refl) (λ few. refl)))
+    either (ByLength lent) (startsOffBlock (blockBytes (sizeOf w)) (length (t .bytes)) (length (h .list))) (λ off. refl)
+    (λ on. either (ByLength lent) (keepsTooMuch (blockBytes (sizeOf w)) keep (length (h .list))) (λ much. refl) (λ few. refl)))
 call-by-length w lent t (Begin h) =
-    either ByLength (t .begun) (λ begun. refl)
-    (λ idle. either ByLength (not (eqb (length (h .list)) (heldLength w (length (t .bytes))))) (λ other. refl) (λ same. refl))
+    either (ByLength lent) (t .begun) (λ begun. refl)
+    (λ idle. either (ByLength lent) (not (eqb (length (h .list)) (heldLength w (length (t .bytes))))) (λ other. refl) (λ same. refl))
 call-by-length w lent t (HandBack block) =
-    either ByLength (not (t .begun)) (λ idle. refl)
-    (λ begun. either ByLength (noBlock (blockBytes (sizeOf w)) (length (t .bytes)) (t .number) (length (block .list))) (λ none. refl) (λ one. refl))
+    either (ByLength lent) (not (t .begun)) (λ idle. refl)
+    (λ begun. either (ByLength lent) (noBlock (blockBytes (sizeOf w)) (length (t .bytes)) (t .number) (length (block .list))) (λ none. refl) (λ one. refl))
 call-by-length w lent t (End keep) =
-    either ByLength (not (t .begun)) (λ idle. refl)
-    (λ begun. either ByLength (keepsTooMuch (blockBytes (sizeOf w)) keep (tapeHanded w t)) (λ much. refl) (λ few. refl))
-call-by-length w lent t Abandon = either ByLength (not (t .begun)) (λ idle. refl) (λ begun. refl)
+    either (ByLength lent) (not (t .begun)) (λ idle. refl)
+    (λ begun. either (ByLength lent) (keepsTooMuch (blockBytes (sizeOf w)) keep (tapeHanded w t)) (λ much. refl) (λ few. refl))
+call-by-length w lent t Abandon = either (ByLength lent) (not (t .begun)) (λ idle. refl) (λ begun. refl)
 
-tape-by-length : (w : ℕ) (lent : Lent) (cs : List Call) (t : Tape) → allByLength (answers (tapeCall w lent) t cs) ≡ true
+tape-by-length : (w : ℕ) (lent : Lent) (cs : List Call) (t : Tape) → allByLength lent (answers (tapeCall w lent) t cs) ≡ true
 tape-by-length w lent [] t = refl
 tape-by-length w lent (c ∷ cs) t = rw (call-by-length w lent t c) (tape-by-length w lent cs (tapeCall w lent t c .next))
 
@@ -167,6 +177,9 @@ lent-shows w n s short (Roll slots) =
     }
 
 module _ (w n : ℕ) (first : First) (lent : Lent) (cs : List Call) (accepted : firstCall w n first .number ≡ 0) where
+  abbrev R : Record
+  R = firstCall w n first .next
+
   abbrev S : List ℕ
   S = firstBytes w n first
 
@@ -176,29 +189,27 @@ module _ (w n : ℕ) (first : First) (lent : Lent) (cs : List Call) (accepted : 
   new-kept : KeptTape w (plain S)
   new-kept = plain-kept w S (new .kept)
 
-  pub tape-kept : KeptTape w (tapeAfter w n first lent cs)
+  pub tape-kept : KeptTape w (tapeAfter w lent (firstBytes w n first) cs)
   unfolding tapeAfter
   tape-kept = good-after (tapeCall w lent) (KeptTape w) (call-kept w lent) cs (plain S) new-kept
 
-  new-plain : firstCall w n first .next ≡ tapeRecord w n (plain S)
+  new-plain : R ≡ tapeRecord w n (plain S)
   unfolding tapeRecord plain withSplit recordOf
   new-plain = new .recorded
 
   -- from the new order on, whose record is that of the tape
-  order-follows : Premise w n first lent cs
-      → (orderAnswers w n first lent cs ≡ tapeAnswers w n first lent cs) × ShowsTape lent w n (orderAfter w n first lent cs) (tapeAfter w n first lent cs)
+  order-follows : Premise w lent S cs
+      → (orderAnswers w lent R cs ≡ tapeAnswers w lent S cs) × ShowsTape lent w n (orderAfter w lent R cs) (tapeAfter w lent S cs)
   unfolding Premise orderAnswers orderAfter newOrder tapeAnswers tapeAfter plain
   order-follows h =
       calls-follow (tapeCall w lent) (KeptTape w) (call-kept w lent) (orderCall lent) (HandsBack w lent) (ShowsTape lent w n) (call-step w n (new .word) (new .digest) lent)
-      cs (newOrder w n first lent) (plain S) (record { kept = new-plain; roll = lent-shows w n S (new .short) lent }) new-kept h
+      cs (newOrder w lent R) (plain S) (record { kept = new-plain; roll = lent-shows w n S (new .short) lent }) new-kept h
 
-  pub corrected : Premise w n first lent cs → Corrected w n first lent cs
+  pub corrected-from : Premise w lent (firstBytes w n first) cs → CorrectedFrom w n first lent cs
   unfolding tapeAnswers tapeAfter plain
-  corrected h =
+  corrected-from h =
       record {
-        agree = order-follows h .0;
-        remains = order-follows h .1 .kept;
-        shows = order-follows h .1 .roll;
+        asTape = record { agree = order-follows h .0; remains = order-follows h .1 .kept; shows = order-follows h .1 .roll };
         blocks =
             rw (order-follows h .0)
             (omega (
@@ -209,7 +220,15 @@ module _ (w n : ℕ) (first : First) (lent : Lent) (cs : List Call) (accepted : 
             ));
       }
 
-  -- so 3, 8, 9 and 15 are never given
-  pub by-length : Premise w n first lent cs → allByLength (orderAnswers w n first lent cs) ≡ true
+  -- so 3, 8, 9 and 15 are never given, and 16 only with a roll
+  pub by-length : Premise w lent (firstBytes w n first) cs → allByLength lent (orderAnswers w lent (firstCall w n first .next) cs) ≡ true
   unfolding tapeAnswers
-  by-length h = ap allByLength (corrected h .agree) ∙ tape-by-length w lent cs (plain S)
+  by-length h = ap (allByLength lent) (corrected-from h .asTape .agree) ∙ tape-by-length w lent cs (plain S)
+
+-- demand 3: from an accepted Open on, whose count is 0
+pub corrected : (w n : ℕ) (lent : Lent) (cs : List Call) → openCall w n .number ≡ 0 → Premise w lent [] cs → Corrected w n lent cs
+unfolding wholeBlocks
+corrected w n lent cs accepted h =
+    let c : CorrectedFrom w n Opened lent cs = corrected-from w n Opened lent cs accepted h in
+    let none : openCall w n .count ≡ 0 = new-order w n Opened accepted .counted ∙ zero-div (blockBytes (sizeOf w)) in
+    record { asTape = c .asTape; blocks = omega (arith, c .blocks, none) }

@@ -11,8 +11,9 @@ use Rattle.record.specs.declared.Record.{Record}
 use Rattle.record.specs.declared.Split.{Split}
 use Rattle.record.specs.Split.{notBegun}
 use Rattle.record.specs.Record.{sound, withSplit, recordOf}
+use Rattle.record.specs.Arrays.{Arrays}
 use Rattle.split_rewind.specs.OneRewind.{afterSteps, StepsAccepted}
-use Rattle.split_rewind.proofs.OneRewind.{Arrays, begin-is, x-sound, as-before}
+use Rattle.split_rewind.proofs.OneRewind.{begin-is, x-sound, as-before}
 use Rattle.whole.specs.Whole.{wholeAnswer, wholeOutput}
 use Rattle.close.specs.Close.{closeAnswer, closeOutput}
 use Rattle.close.proofs.Messages.{same-answer, same-output}
@@ -20,10 +21,10 @@ use Rattle.close.proofs.Unfinished.{same-answer-unfinished, same-output-unfinis
 use Rattle.tape.specs.Tape.{Lent, Tape}
 use Rattle.tape.specs.TapeSteps.{tapeSplit, tapeRecord}
 use Rattle.tape.specs.Calls.{Call}
-use Rattle.tape.specs.First.{First, firstCall}
-use Rattle.tape.specs.Corrected.{orderAfter, tapeAfter, Premise}
+use Rattle.tape.specs.First.{First, firstCall, firstBytes}
+use Rattle.tape.specs.Orders.{orderAfter, tapeAfter, Premise}
 use Rattle.tape.proofs.First.{new-order}
-use Rattle.tape.proofs.Corrected.{KeptTape, tape-kept, both-sound, corrected}
+use Rattle.tape.proofs.Corrected.{KeptTape, tape-kept, both-sound, corrected-from}
 
 -- Close on the record of a tape, and Whole on its bytes, answer and write the same
 tape-receipt : (w n : ℕ) (t : Tape) → isWordSize w ≡ true → isDigestLength w n ≡ true → KeptTape w t → (last e : ℕ) (output : List ℕ)
@@ -41,15 +42,23 @@ tape-receipt w n t word digest kept last e output =
     )
 
 -- the buyer's sentence: after the calls, finished or not
-pub corrected-receipt : (w n : ℕ) (first : First) (lent : Lent) (cs : List Call) → firstCall w n first .number ≡ 0 → Premise w n first lent cs → (last e : ℕ) (output : List ℕ)
-    → (closeAnswer (orderAfter w n first lent cs .kept) last e (length output) ≡ wholeAnswer w n (length (tapeAfter w n first lent cs .bytes)) last e (length output))
-    × (closeOutput (orderAfter w n first lent cs .kept) last e output ≡ wholeOutput w n (tapeAfter w n first lent cs .bytes) last e output)
-corrected-receipt w n first lent cs accepted h last e output =
-    let new = new-order w n first accepted in
-    let same = tape-receipt w n (tapeAfter w n first lent cs) (new .word) (new .digest) (tape-kept w n first lent cs accepted) last e output in (
-      ap (λ (r : Record). closeAnswer r last e (length output)) (corrected w n first lent cs accepted h .remains) ∙ same .0,
-      ap (λ (r : Record). closeOutput r last e output) (corrected w n first lent cs accepted h .remains) ∙ same .1,
-    )
+module _ (w n : ℕ) (first : First) (lent : Lent) (cs : List Call) (accepted : firstCall w n first .number ≡ 0) where
+  abbrev kept : Record
+  kept = orderAfter w lent (firstCall w n first .next) cs .kept
+
+  abbrev bytes : List ℕ
+  bytes = tapeAfter w lent (firstBytes w n first) cs .bytes
+
+  pub corrected-receipt : Premise w lent (firstBytes w n first) cs → (last e : ℕ) (output : List ℕ)
+      → (closeAnswer kept last e (length output) ≡ wholeAnswer w n (length bytes) last e (length output))
+      × (closeOutput kept last e output ≡ wholeOutput w n bytes last e output)
+  corrected-receipt h last e output =
+      let new = new-order w n first accepted in
+      let remains = corrected-from w n first lent cs accepted h .asTape .remains in
+      let same = tape-receipt w n (tapeAfter w lent (firstBytes w n first) cs) (new .word) (new .digest) (tape-kept w n first lent cs accepted) last e output in (
+        ap (λ (r : Record). closeAnswer r last e (length output)) remains ∙ same .0,
+        ap (λ (r : Record). closeOutput r last e output) remains ∙ same .1,
+      )
 
 -- for any record: after a begin and hand-backs that are accepted, Close answers and writes what it did before them
 pub unfinished-receipt : (r : Record) → Arrays r → (h : List ℕ) (bs : List (List ℕ)) → StepsAccepted r h bs → (last e : ℕ) (output : List ℕ)

@@ -16,7 +16,8 @@ use Rattle.lsh.specs.Block.{forwards, backwards}
 use Rattle.lsh.specs.Opening.{opening}
 use Rattle.lsh.specs.Padding.{blocksOf, restOf}
 use Rattle.lsh.proofs.Figures.{amounts, block-some}
-use Rattle.lsh.proofs.Bytes.{Bytes, bytes-append, bytes-take}
+use Rattle.lsh.specs.ByteString.{Bytes}
+use Rattle.lsh.proofs.Bytes.{bytes-append, bytes-take}
 use Rattle.lsh.proofs.Blocks.{forwards-chain, backwards-forwards, forwards-append}
 use Rattle.lsh.proofs.Opening.{opening-chain}
 use Rattle.lsh.proofs.Padding.{blocks-short}

@@ -6,7 +6,8 @@ use mathlib.Core.List.{List, _++_}
 use Prim.Native.Nat.{ℕ}
 use lib.ListN.{length}
 use lib.Seq.{drop-at}
-use Rattle.lsh.proofs.Bytes.{Bytes, bytes-drop}
+use Rattle.lsh.specs.ByteString.{Bytes}
+use Rattle.lsh.proofs.Bytes.{bytes-drop}
 use Rattle.record.specs.declared.Record.{Record}
 use Rattle.record.specs.declared.Split.{Split}
 use Rattle.record.specs.Split.{notBegun}
@@ -23,13 +24,16 @@ use Rattle.tape.specs.Tape.{Lent, Tape}
 use Rattle.tape.specs.TapeSteps.{tapeSplit, tapeRecord}
 use Rattle.tape.specs.Calls.{Call}
 use Rattle.tape.specs.First.{Started}
-use Rattle.tape.specs.Corrected.{orderAfter, tapeAfter, Premise}
+use Rattle.tape.specs.Orders.{orderAfter, tapeAfter, Premise}
 use Rattle.tape.proofs.Steps.{Kept}
-use Rattle.tape.proofs.Corrected.{KeptTape, tape-kept, both-sound, corrected}
+use Rattle.tape.proofs.Corrected.{KeptTape, tape-kept, both-sound, corrected-from}
 
 module _ (w n : ℕ) (key : List ℕ) (lent : Lent) (cs : List Call) (accepted : startCall w n key .number ≡ 0) where
   abbrev T : Tape
-  T = tapeAfter w n (Started key) lent cs
+  T = tapeAfter w lent (innerKey w n key) cs
+
+  abbrev final : Record
+  final = orderAfter w lent (startCall w n key .next) cs .kept
 
   abbrev split : Split
   split = cond (T .begun) (tapeSplit w n (T .bytes) (T .number)) notBegun
@@ -55,12 +59,12 @@ module _ (w n : ℕ) (key : List ℕ) (lent : Lent) (cs : List Call) (accepted :
     message-bytes : Bytes m
     message-bytes = subst Bytes (drop-at (innerKey w n key) m _ refl) (bytes-drop (length (innerKey w n key)) (innerKey w n key ++ m) (both .bytes))
 
-    pub corrected-tag : Premise w n (Started key) lent cs → (output : List ℕ)
-        → (finishAnswer (orderAfter w n (Started key) lent cs .kept) (length key) (length output) ≡ tagAnswer w n (length key) (length m) (length output))
-        × (finishOutput (orderAfter w n (Started key) lent cs .kept) key output ≡ tagOutput w n key m output)
+    pub corrected-tag : Premise w lent (innerKey w n key) cs → (output : List ℕ)
+        → (finishAnswer final (length key) (length output) ≡ tagAnswer w n (length key) (length m) (length output))
+        × (finishOutput final key output ≡ tagOutput w n key m output)
     unfolding tapeRecord
     corrected-tag h output =
-        let remains = corrected w n (Started key) lent cs accepted h .remains in (
+        let remains = corrected-from w n (Started key) lent cs accepted h .asTape .remains in (
           ap (λ (r : Record). finishAnswer r (length key) (length output)) remains
               ∙ finish-answer-unfinished (recordOf w n (T .bytes)) split (sounds .0) (sounds .1) (length key) (length output)
               ∙ ap (λ (s : List ℕ). finishAnswer (recordOf w n s) (length key) (length output)) after

@@ -32,6 +32,7 @@ use Rattle.record.specs.declared.Split.{Split}
 use Rattle.record.specs.declared.Outcome.{Outcome}
 use Rattle.record.specs.Split.{notBegun}
 use Rattle.record.specs.Record.{heldOf, heldBytes, sound, isBegun, withSplit, recordOf, refused}
+use Rattle.record.specs.Arrays.{Arrays}
 use Rattle.record.proofs.Lists.{all-zero}
 use Rattle.record.proofs.Sound.{chain-below}
 use Rattle.record.proofs.Begun.{one-begun-sound, with-sound}
@@ -43,7 +44,7 @@ use Rattle.split_rewind.specs.HandBack.{handedBack}
 use Rattle.split_rewind.specs.End.{lastBytes, endCall}
 use Rattle.split_rewind.specs.OneRewind.{answeredOn}
 use Rattle.split_rewind.proofs.Lengths.{before-is, blocks-on}
-use Rattle.split_rewind.proofs.OneRewind.{Arrays, Handed, end-is, wound}
+use Rattle.split_rewind.proofs.OneRewind.{Handed, end-is, wound}
 use Rattle.tape.specs.Tape.{wholeBlocks}
 use Rattle.tape.specs.TapeSteps.{blockAfter, handedLast, tapeSplit}
 use Rattle.tape.proofs.Steps.{Kept, sound-is, reached-is, last-bytes, cut-next}

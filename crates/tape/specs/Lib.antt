@@ -3,5 +3,8 @@ pub mod Tape
 pub mod TapeSteps
 pub mod Calls
 pub mod TapeRoll
-pub mod First
+pub mod Orders
 pub mod Corrected
+pub mod ByLength
+pub mod TakenUp
+pub mod First
