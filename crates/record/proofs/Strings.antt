@@ -1,14 +1,15 @@
--- The record of a byte string within the limit is sound, it holds the bytes after the last whole block, and that of no bytes is what Open makes.
+-- The record of a byte string within the limit is sound, it holds the bytes after the last whole block, and that of no bytes is what Open makes. That of
+-- whole blocks is made of their number and their chain.
 -- Assumes nothing.
-use mathlib.Core.Path.{_≡_, refl, ap, _∙_}
+use mathlib.Core.Path.{_≡_, refl, sym, ap, _∙_}
 use mathlib.Core.Bool.{true, false}
 use mathlib.Core.List.{List, []}
-use Prim.Native.Nat.{ℕ, _+_, _-_, _%_, _^_, _≤_}
-use native.Mathlib.Nat.{zero-mul, zero-div, le-of-eq}
+use Prim.Native.Nat.{ℕ, _+_, _-_, _*_, _/_, _%_, _^_, _≤_}
+use native.Mathlib.Nat.{zero-mul, zero-div, mul-div-cancel, mul-mod-left, le-of-eq}
 use native.Mathlib.Omega.{arith}
 use borrow.Author.Tests.{le-leb}
-use lib.ListN.{length, drop, replicate}
-use lib.Seq.{take-at, drop-append-add}
+use lib.ListN.{length, take, drop, replicate, take-append-drop}
+use lib.Seq.{length-take-le, take-at, drop-append-add}
 use Rattle.lsh.specs.WordSize.{WordSize, isWordSize, sizeOf, blockBytes}
 use Rattle.lsh.specs.Block.{Chain, forwards}
 use Rattle.lsh.specs.Opening.{opening}
@@ -16,13 +17,13 @@ use Rattle.lsh.specs.Padding.{firstBlocks, blocksOf, restOf}
 use Rattle.lsh.proofs.Figures.{amounts, block-some}
 use Rattle.lsh.proofs.Blocks.{forwards-chain}
 use Rattle.lsh.proofs.Opening.{opening-chain}
-use Rattle.lsh.proofs.Padding.{length-rest}
+use Rattle.lsh.proofs.Padding.{firstBlocks-front, length-rest, rest-none}
 use Rattle.runs.specs.Limits.{longestBlock, isDigestLength, limit}
 use Rattle.runs.specs.ZeroFilled.{zeroFilled}
 use Rattle.runs.proofs.Zeros.{drop-replicate}
 use Rattle.record.specs.Lists.{allBelow, allZero}
 use Rattle.record.specs.Split.{notBegun}
-use Rattle.record.specs.Record.{heldOf, sound, isBegun, heldBytes, recordOf}
+use Rattle.record.specs.Record.{heldOf, sound, isBegun, heldBytes, recordOf, recordAt}
 use Rattle.record.specs.Open.{opened, openCall}
 use Rattle.record.proofs.Lists.{all-zero}
 use Rattle.record.proofs.Sound.{chain-below}
@@ -73,6 +74,30 @@ module _ (w n : ℕ) (m : List ℕ) (word : isWordSize w ≡ true) where
 pub record-idle : (w n : ℕ) (m : List ℕ) → isBegun (recordOf w n m) ≡ false
 unfolding isBegun recordOf notBegun
 record-idle w n m = refl
+
+-- the chain after the first k blocks of s, with no held bytes, is the record of those blocks
+pub record-at : (w n k : ℕ) (s : List ℕ) → k * blockBytes (sizeOf w) ≤ length s
+    → recordAt w n k (forwards (sizeOf w) (firstBlocks (sizeOf w) k s) (opening (sizeOf w) n)) ≡ recordOf w n (take (k * blockBytes (sizeOf w)) s)
+unfolding recordAt recordOf blocksOf
+record-at w n k s le =
+    let z : WordSize = sizeOf w in
+    let B : ℕ = blockBytes z in
+    let front : List ℕ = take (k * B) s in
+    let size : length front ≡ k * B = length-take-le (k * B) s le in
+    let count : length front / B ≡ k = ap (λ (m : ℕ). m / B) size ∙ mul-div-cancel k (block-some w) in
+    let blocks : firstBlocks z k s ≡ firstBlocks z (length front / B) front =
+    ap (firstBlocks z k) (sym (take-append-drop (k * B) s))
+    ∙ firstBlocks-front z k front (drop (k * B) s) (le-of-eq (sym size))
+    ∙ ap (λ (m : ℕ). firstBlocks z m front) (sym count) in
+    let none : restOf z front ≡ [] = rest-none z (block-some w) front (ap (λ (m : ℕ). m % B) size ∙ mul-mod-left k B) in
+    λ i. record {
+      w = w;
+      n = n;
+      total = sym size i;
+      chain = ap (λ (bs : List (List ℕ)). forwards z bs (opening z n)) blocks i;
+      held = ap heldOf (sym none) i;
+      split = notBegun;
+    }
 
 -- what an accepted Open makes
 pub open-next : (w n : ℕ) → isWordSize w ≡ true → isDigestLength w n ≡ true → openCall w n .next ≡ opened w n

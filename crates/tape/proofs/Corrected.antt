@@ -124,10 +124,10 @@ abbrev ByLength : {S : Type 0} → Lent → Given S → Type 0
 ByLength lent g = byLength lent (g .answer .number) ≡ true
 
 -- 16 only with a roll
-full-by-length : (lent : Lent) (blocks : ℕ) {S : Type 0} (s : S) {g : Given S} → ByLength lent g → ByLength lent (cond (tooManyBlocks lent blocks) (stays 16 s) g)
+full-by-length : (lent : Lent) (blocks : ℕ) (s : List ℕ) (g : Given (List ℕ)) → ByLength lent g → ByLength lent (cond (tooManyBlocks lent blocks) (stays 16 s) g)
 unfolding byLength stays
-full-by-length NoRoll blocks s room = room
-full-by-length (Roll slots) blocks s {g} room = either (ByLength (Roll slots)) (tooManyBlocks (Roll slots) blocks) (λ full. refl) (λ fits. room)
+full-by-length NoRoll blocks s g room = room
+full-by-length (Roll slots) blocks s g room = either (ByLength (Roll slots)) (tooManyBlocks (Roll slots) blocks) (λ full. refl) (λ fits. room)
 
 call-by-length : (w : ℕ) (lent : Lent) (t : Tape) (c : Call) → ByLength lent (tapeCall w lent t c)
 unfolding byLength tapeAppend tapeRewind tapeCut stays plainly taken moved tapeBegin tapeHandBack tapeEnd tapeAbandon
@@ -135,7 +135,7 @@ call-by-length w lent t (Append piece) =
     either (ByLength lent) (t .begun) (λ begun. refl)
     (λ idle.
     either (ByLength lent) (ltb limit (length (t .bytes) + length (piece .list))) (λ over. refl)
-    (λ within. full-by-length lent (wholeBlocks w (t .bytes ++ piece .list)) (t .bytes) refl))
+    (λ within. full-by-length lent (wholeBlocks w (t .bytes ++ piece .list)) (t .bytes) _ refl))
 call-by-length w lent t (Rewind keep h) =
     either (ByLength lent) (t .begun) (λ begun. refl)
     (λ idle.

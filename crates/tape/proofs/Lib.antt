@@ -9,4 +9,5 @@ pub mod Tapes
 pub mod First
 pub mod Corrected
 pub mod Receipts
+pub mod TakenUp
 pub mod Tags
