@@ -3,3 +3,4 @@ pub mod Held
 pub mod Appending
 pub mod Joins
 pub mod Sound
+pub mod Empty

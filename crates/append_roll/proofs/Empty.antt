@@ -1,0 +1,51 @@
+-- An empty piece changes nothing with a roll either: no byte of any roll, and a sound record with a roll of it is returned as it is.
+-- Assumes nothing.
+use mathlib.Core.Path.{_≡_, refl, ap, _∙_}
+use mathlib.Core.Bool.{Bool, true, false, cond}
+use mathlib.Core.List.{List, []}
+use Prim.Native.Nat.{ℕ, _+_, _-_}
+use native.Mathlib.Nat.{add-zero}
+use native.Mathlib.Omega.{arith}
+use borrow.Author.Tests.{le-ltb}
+use lib.Dec.{eqb}
+use lib.ListN.{length}
+use Rattle.lsh.specs.WordSize.{sizeOf}
+use Rattle.runs.specs.Limits.{limit}
+use Rattle.record.specs.declared.Record.{Record}
+use Rattle.record.specs.declared.Outcome.{Outcome}
+use Rattle.record.specs.Record.{sound, isBegun}
+use Rattle.record.specs.Arrays.{Arrays}
+use Rattle.record.proofs.Sound.{sounds}
+use Rattle.append.proofs.Empty.{accepted-empty}
+use Rattle.checkpoints.specs.Slots.{slotCount}
+use Rattle.checkpoints.specs.Roll.{links, checkpoints, isRollOf}
+use Rattle.checkpoints.specs.Checkpoints.{laidAfter}
+use Rattle.checkpoints.proofs.Form.{linked, roll-of}
+use Rattle.append_roll.specs.AppendRoll.{due, isFull, appendRollAnswer, appendRollCall, checkpointChain, appendedRoll}
+
+-- no checkpoint is due
+none-due : (r : Record) → due r 0 ≡ 0
+unfolding due
+none-due r = ap (λ (k : ℕ). checkpoints (r .w) k - checkpoints (r .w) (r .total)) (add-zero (r .total)) ∙ omega arith
+
+-- whatever the answer is
+pub roll-empty : (r : Record) (roll : List ℕ) → appendedRoll r [] roll ≡ roll
+unfolding appendedRoll
+roll-empty r roll = rw (none-due r) (either (eqb (appendRollAnswer r 0 roll) 0))
+  where
+    either : (b : Bool) → cond b roll roll ≡ roll
+    either true = refl
+    either false = refl
+
+-- a roll of the record has room for no more
+room-empty : (r : Record) (roll : List ℕ) → isRollOf r roll ≡ true → isFull r 0 roll ≡ false
+unfolding isFull
+room-empty r roll of =
+    let z = sizeOf (r .w) in
+    le-ltb (slotCount z (length roll)) (length (links z roll) + due r 0) (omega (arith, none-due r, linked z roll (roll-of r roll of .0) .few))
+
+pub append-roll-empty : (r : Record) → Arrays r → sound r ≡ true → isBegun r ≡ false → (roll : List ℕ) → isRollOf r roll ≡ true
+    → _≡_ {A = Outcome} (appendRollCall r [] roll) (record { number = 0; count = 0; next = r })
+unfolding appendRollCall appendRollAnswer
+append-roll-empty r arrays ok idle roll of =
+    rw (ok, idle, of, le-ltb limit (r .total + 0) (omega (arith, sounds r ok .few)), room-empty r roll of) (accepted-empty r arrays ok)
