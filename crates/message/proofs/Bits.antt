@@ -16,7 +16,7 @@ use Rattle.lsh.proofs.Tabulate.{length-tabulate, at-tabulate, tabulate-ext}
 use Rattle.lsh.specs.ByteString.{Bytes}
 
 -- the k low bits of x, the highest first
-unfoldable lowBits : ℕ → ℕ → List Bool
+unfoldable pub lowBits : ℕ → ℕ → List Bool
 lowBits x zero = []
 lowBits x (suc k) = bit x k ∷ lowBits x k
 
@@ -61,7 +61,7 @@ pub drop-byte : (l : ℕ) (m : List Bool) → drop (8 * suc l) m ≡ drop (8 * l
 drop-byte l m = let e : 8 * suc l ≡ 8 + 8 * l = omega arith in ap (λ (n : ℕ). drop n m) e ∙ sym (drop-drop (8 * l) 8 m)
 
 -- the first byte, and the rest
-bytes-step : (m : List Bool) → 0 < length m → bytesOfBits m ≡ numberOf 8 m ∷ bytesOfBits (drop 8 m)
+pub bytes-step : (m : List Bool) → 0 < length m → bytesOfBits m ≡ numberOf 8 m ∷ bytesOfBits (drop 8 m)
 unfolding bytesOfBits
 bytes-step m h =
     tabulate-ext ((length m + 7) / 8) (λ l. numberOf 8 (drop (8 * l) m)) (numberOf 8 m ∷ bytesOfBits (drop 8 m))

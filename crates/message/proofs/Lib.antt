@@ -1,3 +1,4 @@
 pub mod Bits
+pub mod Back
 pub mod Padded
 pub mod Digest

@@ -18,6 +18,7 @@ use Rattle.lsh.proofs.Tabulate.{length-tabulate, at-tabulate}
 use Rattle.lsh.proofs.Figures.{bits-are}
 use Rattle.lsh.proofs.Bytes.{octets, word-bytes}
 use Rattle.message.proofs.Bits.{length-bits, low-zero}
+use Rattle.message.proofs.Back.{length-bytes}
 use Rattle.runs.specs.Limits.{longestDigest, isDigestLength, limit}
 use Rattle.runs.proofs.Limits.{digest-most, digest-longest}
 use Rattle.runs.proofs.Zeros.{filled-length}
@@ -55,8 +56,7 @@ module _ (w n : ℕ) (d : List Bool) (bits : ℕ) (word : isWordSize w ≡ true)
   r = receipt w n d bits
 
   bytes-length : length bytes ≡ (n + 7) / 8
-  unfolding bytesOfBits
-  bytes-length = length-tabulate ((length d + 7) / 8) (λ l. numberOf 8 (drop (8 * l) d)) ∙ ap (λ (k : ℕ). (k + 7) / 8) size
+  bytes-length = length-bytes d ∙ ap (λ (k : ℕ). (k + 7) / 8) size
 
   short : n ≤ longestDigest 64
   short = digest-longest w n word digestLength
