@@ -3,7 +3,7 @@
  * Prints a receipt of each picture and of the order, each with the length in bits that it has, and how many pictures are firsts, reprints
  * and blanks. Then the shopper drops the last picture: the order's record is wound back, in steps, and the receipt and the counts of what
  * remains are printed. With a key, the bytes of KEYFILE, a tag follows each receipt of the order: a shop that has the key recognises its own
- * orders by it.
+ * orders by it. An order that is long enough to have a checkpoint is also taken up at its middle, and must go on to the same receipt.
  *
  * The calls are declared, with their answers, in lsh_kiosk.h. */
 #include <errno.h>
@@ -100,14 +100,20 @@ static void read_key(const char *name)
     }
 }
 
-/* The length in bits of what a receipt is of: its last bytes, the low byte first. */
+/* The number that some bytes hold, at most eight of them, the low byte first. */
+static uint64_t number_in(const uint8_t *bytes, size_t length)
+{
+    uint64_t number = 0;
+    for (size_t i = length; i > 0; i--) {
+        number = number << 8 | bytes[i - 1];
+    }
+    return number;
+}
+
+/* The length in bits of what a receipt is of: its last bytes. */
 static uint64_t bit_length(const uint8_t *receipt)
 {
-    uint64_t bits = 0;
-    for (size_t i = LSH_RECEIPT_BYTES; i > LSH_LENGTH_PLACE; i--) {
-        bits = bits << 8 | receipt[i - 1];
-    }
-    return bits;
+    return number_in(receipt + LSH_LENGTH_PLACE, LSH_RECEIPT_BYTES - LSH_LENGTH_PLACE);
 }
 
 static void print_hexadecimal(const uint8_t *bytes, size_t length)
@@ -193,6 +199,38 @@ static void must_give_same_receipt(lsh_record order, lsh_record other)
     }
 }
 
+/* The record of the order's first blocks, as it stood at the k-th checkpoint, k from 1 on: of them it has the number, the chain, and no
+ * held bytes. The bytes before the checkpoint are not read. */
+static lsh_record record_at_checkpoint(size_t k)
+{
+    /* The slots of the checkpoints are linked: the head's index leads to the first of them, and the index of each slot to the next. */
+    size_t slot = number_in(roll, LSH_INDEX_BYTES);
+    for (size_t i = 1; i < k; i++) {
+        slot = number_in(roll + LSH_SLOT_PLACE(WORD_SIZE, slot), LSH_INDEX_BYTES);
+    }
+
+    lsh_record record = {.w = WORD_SIZE, .n = DIGEST_BITS, .total = k * LSH_CHECKPOINT_BLOCKS * LSH_BLOCK_BYTES(WORD_SIZE)};
+    for (size_t i = 0; i < 16; i++) {
+        record.chain[i] = number_in(roll + LSH_CHAIN_PLACE(WORD_SIZE, slot) + i * (WORD_SIZE / 8), WORD_SIZE / 8);
+    }
+    return record;
+}
+
+/* Takes the order up at its middle checkpoint, appends the bytes behind it, and ends the program if that gives another receipt. So a driver
+ * reads a long order from its middle on. An order without a checkpoint, or without a roll, can only be read from its start. */
+static void must_go_on_from_middle(lsh_record order)
+{
+    size_t checkpoints = order.total / LSH_BLOCK_BYTES(WORD_SIZE) / LSH_CHECKPOINT_BLOCKS;
+    if (!has_roll || checkpoints == 0) {
+        return;
+    }
+    lsh_record middle = record_at_checkpoint((checkpoints + 1) / 2);
+    /* What was appended before is not laid on the roll again, so this Append is one without it. */
+    lsh_outcome outcome = lsh_append(middle, pictures.bytes + middle.total, order.total - middle.total);
+    must_be_accepted(outcome.number, "lsh_append from the middle");
+    must_give_same_receipt(outcome.next, order);
+}
+
 /* The counts of the first pictures. */
 static void print_tally(size_t count)
 {
@@ -276,10 +314,12 @@ int main(int argc, char **argv)
     }
     print_order(order, count, "the order");
     print_tally(count);
+    must_go_on_from_middle(order);
 
     order = cut_order(order, places[count - 1]);
     print_order(order, count - 1, "the order without its last picture");
     print_tally(count - 1);
+    must_go_on_from_middle(order);
 
     if (fflush(stdout) != 0) {
         fail("the output", strerror(errno));

@@ -101,8 +101,8 @@ typedef struct lsh_record {
     uint64_t blocks;
 } lsh_record;
 
-/* The answer to a call on an order: its number, how many blocks were run (0 if it is refused), and the record that follows (the one given
- * if it is refused). */
+/* The answer to a call on an order: its number, a count of blocks, which each call below explains (0 if it is refused), and the record that
+ * follows (the one given if it is refused; zeros from a refused lsh_open or lsh_tag_start). */
 typedef struct lsh_outcome {
     uint32_t number;
     uint64_t count;

@@ -17,7 +17,7 @@ unfoldable pub freeSlot : ℕ → List ℕ → ℕ
 freeSlot k linked = firstFree 1 k linked
 
 -- what holds of a choice: where fewer than k slots are linked, it is one of the k, and not linked. All that is said of rolls goes by this alone, so that
--- with another choice freeSlot changes, and no other statement
+-- with another choice by the number of slots and the links freeSlot changes, and no other statement. One by the roll's other bytes would be another type
 pub record Unlinked (k : ℕ) (linked : List ℕ) (i : ℕ) : Type 0 where
   pub some : 0 < i
   pub within : i ≤ k

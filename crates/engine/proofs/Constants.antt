@@ -1,4 +1,4 @@
--- The table of the step constants: SC_j[l] stands at j * 8 + l. It is worked out four lanes at a time.
+-- The step constants in an array: SC_j[l] stands at j * 8 + l. They are worked out four lanes at a time.
 -- Assumes nothing.
 use mathlib.Core.Path.{_≡_, refl, sym, ap, ap₂, _∙_}
 use mathlib.Core.List.{List}
@@ -63,7 +63,7 @@ worked-more {z} {g} {n} {sc₀} {sc} {p} {j} o q h lt eo eq =
 pub worked-all : {z : WordSize} {g n : ℕ} {sc₀ sc p : List ℕ} {j : ℕ} → WorkedOut z g n sc₀ sc p j → n ≤ j → sc ≡ withFourConstants z g n sc₀
 worked-all {z} {g} {n} {sc₀} {sc} {p} {j} h le = h .rows ∙ ap (λ (k : ℕ). withFourConstants z g k sc₀) (le-antisymm (h .upTo) le)
 
--- what stands in the table then
+-- what stands in the array then
 length-with : (z : WordSize) (g n : ℕ) (sc : List ℕ) → length (withFourConstants z g n sc) ≡ length sc
 unfolding withFourConstants
 length-with z g zero sc = refl
@@ -116,7 +116,7 @@ with-other z g (suc n) sc hg j l hl out = go out (decLt j n) (ℕ-discrete j n) 
     go (inl low) (no from) (yes here) = before (omega arith)
     go (inr high) (no from) (yes here) = after (omega arith)
 
--- with the lanes 0 to 3 and 4 to 7 it is the table
+-- with the lanes 0 to 3 and 4 to 7 these are all of them
 pub with-all : (z : WordSize) (sc low all : List ℕ) → length sc ≡ z .steps * 8 → low ≡ withFourConstants z 0 (z .steps) sc
     → all ≡ withFourConstants z 1 (z .steps) low → all ≡ constants z
 unfolding constants

@@ -1,4 +1,4 @@
--- The table of the step constants, as it is worked out: four lanes of each row at a time, lanes 4g to 4g + 3. SC_j[l] stands at j * 8 + l.
+-- The array of the step constants, as a run works it out: four lanes of each row at a time, lanes 4g to 4g + 3. SC_j[l] stands at j * 8 + l.
 -- Assumes nothing.
 use mathlib.Core.List.{List}
 use Prim.Native.Nat.{ℕ, zero, suc, _+_, _*_}
@@ -20,7 +20,7 @@ fourConstants z g j = tabulate 4 (λ i. constant z j (g * 4 + i))
 unfoldable pub nextFourConstants : WordSize → List ℕ → List ℕ
 nextFourConstants z p = tabulate 4 (λ i. add (z .bits) (at p i) (rotateLeft (z .bits) 8 (at p i)))
 
--- a table after these lanes of SC_0 to SC_(n-1) were put into it
+-- an array after these lanes of SC_0 to SC_(n-1) were put into it
 unfoldable pub withFourConstants : WordSize → ℕ → ℕ → List ℕ → List ℕ
 withFourConstants z g zero sc = sc
 withFourConstants z g (suc n) sc = sets (withFourConstants z g n sc) (n * 8 + g * 4) (fourConstants z g n)

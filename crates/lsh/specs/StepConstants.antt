@@ -11,6 +11,6 @@ unfoldable pub constant : WordSize → ℕ → ℕ → ℕ
 constant z zero l = at (z .firstConstants) l
 constant z (suc j) l = add (z .bits) (constant z j l) (rotateLeft (z .bits) 8 (constant z j l))
 
--- the table of them all, eight for each step: SC_j[l] stands at j * 8 + l
+-- all of them in one list, eight for each step: SC_j[l] stands at j * 8 + l
 unfoldable pub constants : WordSize → List ℕ
 constants z = tabulate (z .steps * 8) (λ k. constant z (k / 8) (k % 8))

@@ -1,5 +1,6 @@
-//! The formal statements that docs/PROMISES.md quotes are those of the files that it names.
+//! The formal statements that docs/PROMISES.md quotes are those of the files that it names, and what they name is defined in specs/ or quoted.
 
+use std::collections::BTreeSet;
 use std::fs;
 use std::path::{Path, PathBuf};
 
@@ -49,16 +50,61 @@ fn repository() -> PathBuf {
     Path::new(env!("CARGO_MANIFEST_DIR")).join("../..")
 }
 
-#[test]
-fn quotations_stand_in_their_files() {
+/// The quotations of docs/PROMISES.md, each with the text of its file.
+fn quoted() -> Vec<(Quotation, String)> {
     let document = fs::read_to_string(repository().join("docs/PROMISES.md")).unwrap();
     let quotations = quotations(&document);
     assert!(!quotations.is_empty());
-    for quotation in &quotations {
+    let with_text = |quotation: Quotation| {
         let text = fs::read_to_string(repository().join(&quotation.file))
             .unwrap_or_else(|error| panic!("{}: {error}", quotation.file));
+        (quotation, text)
+    };
+    quotations.into_iter().map(with_text).collect()
+}
+
+/// The words of a line; what follows a dot is a field and no name.
+fn words(line: &str) -> impl Iterator<Item = &str> {
+    let is_word = |word: &&str| !word.is_empty() && !word.starts_with('.');
+    line.split(|c: char| c.is_whitespace() || "(){};,".contains(c)).filter(is_word)
+}
+
+/// The name that a line defines, as "abbrev pub NAME : TYPE" and "pub record NAME (..) : TYPE where" do.
+fn defined(line: &str) -> Option<&str> {
+    let mut words =
+        line.split_whitespace().skip_while(|word| ["abbrev", "unfoldable", "pub", "record", "data"].contains(word));
+    let name = words.next()?;
+    let next = words.next()?;
+    (next == ":" || next.starts_with('(') && line.contains("record ")).then_some(name)
+}
+
+/// The names that a line binds, as "(a b : TYPE)" does, and the fields that it gives, as "{ a = VALUE; b = VALUE }" does.
+fn bound(line: &str) -> impl Iterator<Item = &str> {
+    let parts = line.split(['(', '{', ';']).skip(1);
+    parts.filter_map(|part| Some(part.split_once(" : ").or(part.split_once(" = "))?.0)).flat_map(str::split_whitespace)
+}
+
+/// The names that a file of proofs/ defines itself or takes from another such file.
+fn names_of_proofs(text: &str) -> BTreeSet<&str> {
+    let is_import = |line: &&str| line.starts_with("use Rattle·") && line.contains("proofs.");
+    let imports = text.lines().filter(is_import).filter_map(|line| line.split_once(".{"));
+    let imported = imports.flat_map(|(_, names)| names.trim_end_matches('}').split(", "));
+    imported.chain(text.lines().filter_map(defined)).collect()
+}
+
+/// The names of proofs/ in a quotation that are not defined or bound in the quotation itself: a reader would have to look for them there.
+fn hidden_names<'a>(quotation: &'a Quotation, text: &str) -> BTreeSet<&'a str> {
+    let hidden = names_of_proofs(text);
+    let lines = || quotation.lines.iter().map(String::as_str);
+    let known: BTreeSet<&str> = lines().filter_map(defined).chain(lines().flat_map(bound)).collect();
+    lines().flat_map(words).filter(|word| hidden.contains(word) && !known.contains(word)).collect()
+}
+
+#[test]
+fn quotations_stand_in_their_files() {
+    for (quotation, text) in &quoted() {
         assert!(
-            stands_in(quotation, &text),
+            stands_in(quotation, text),
             "{} does not have what docs/PROMISES.md quotes from it:\n{}",
             quotation.file,
             quotation.lines.join("\n")
@@ -67,15 +113,39 @@ fn quotations_stand_in_their_files() {
 }
 
 #[test]
+fn statements_name_what_stands_in_specs() {
+    for (quotation, text) in quoted().iter().filter(|(quotation, _)| quotation.file.contains("/proofs/")) {
+        let hidden = hidden_names(quotation, text);
+        assert!(
+            hidden.is_empty(),
+            "docs/PROMISES.md names what only proofs/ has, {hidden:?}, from {}:\n{}",
+            quotation.file,
+            quotation.lines.join("\n")
+        );
+    }
+}
+
+fn quotation(lines: &[&str]) -> Quotation {
+    Quotation { file: "a file".to_string(), lines: lines.iter().map(|line| line.to_string()).collect() }
+}
+
+#[test]
 fn a_changed_quotation_is_found() {
-    let quotation = |lines: &[&str]| Quotation {
-        file: "a file".to_string(),
-        lines: lines.iter().map(|line| line.to_string()).collect(),
-    };
     let text = "one\n  two\nthree\nfour\n";
     assert!(stands_in(&quotation(&["two", "three"]), text));
     assert!(stands_in(&quotation(&["one", LEFT_OUT, "four"]), text));
     assert!(!stands_in(&quotation(&["one", "three"]), text));
     assert!(!stands_in(&quotation(&["four", LEFT_OUT, "one"]), text));
     assert!(!stands_in(&quotation(&["thre"]), text));
+}
+
+#[test]
+fn a_name_of_proofs_is_found() {
+    let text = "use Rattle.a.specs.A.{inSpecs}\nuse Rattle.a.proofs.B.{Other, Imported}\n  abbrev R : Record\n  R = r\n  pub law : P R";
+    let hidden =
+        |lines: &[&str]| hidden_names(&quotation(lines), text).into_iter().map(str::to_string).collect::<Vec<_>>();
+    assert_eq!(hidden(&["pub law : inSpecs R"]), ["R"]);
+    assert_eq!(hidden(&["pub law : Imported (r .R)"]), ["Imported"]);
+    assert!(hidden(&["abbrev R : Record", "R = r", LEFT_OUT, "pub law : inSpecs R"]).is_empty());
+    assert!(hidden(&["pub law : (Other R : ℕ) → inSpecs R"]).is_empty());
 }
