@@ -78,6 +78,15 @@ roomy n size is = ltb-false size (tagBytes n) (test (ltb size (tagBytes n)) is)
 
 -- the tag of one message
 module _ (w n keyLength len size : ℕ) where
+  -- a first answer that refuses stands, and else the second does
+  pub refused-first : {a : ℕ} → (a ≡ 0 → ⊥) → a ≡ keyAnswer w n keyLength len → a ≡ tagAnswer w n keyLength len size
+  unfolding tagAnswer
+  refused-first other is = is ∙ sym (rw (ne-eqb (keyAnswer w n keyLength len) 0 (λ e. other (is ∙ e))))
+
+  pub passed-first : {a b : ℕ} → a ≡ 0 → a ≡ keyAnswer w n keyLength len → b ≡ roomAnswer n size → b ≡ tagAnswer w n keyLength len size
+  unfolding tagAnswer
+  passed-first none is room = room ∙ sym (rw (eq-eqb (keyAnswer w n keyLength len) 0 (sym is ∙ none)))
+
   pub tag-accepted : tagAnswer w n keyLength len size ≡ 0 → Keyed w n keyLength len × (tagBytes n ≤ size)
   unfolding tagAnswer
   tag-accepted is =
