@@ -217,7 +217,8 @@ lsh_outcome lsh_abandon(lsh_record r);
  *
  * An index is the number of a slot, or 0 where no slot follows, in LSH_INDEX_BYTES bytes, low byte first. The slots that are met on the way
  * from the head are linked. The k-th of them has the chain after k times LSH_CHECKPOINT_BLOCKS blocks. The bytes of a slot that is not
- * linked mean nothing.
+ * linked mean nothing. A record with the order's w and n, the bytes of so many blocks as its total, this chain, and zeros in every other
+ * field is the record of these blocks, and lsh_append goes on from there (record_at_checkpoint of examples/order.c).
  *
  * LSH_BAD_ROLL is answered if the buffer does not have the length of a roll, if an index beyond the slots or a slot twice is met on the way
  * from the head, or if the number of linked slots is not the record's whole blocks divided by LSH_CHECKPOINT_BLOCKS and rounded down. The

@@ -19,9 +19,8 @@ use Rattle.record.proofs.Sound.{sounds}
 use Rattle.append.proofs.Empty.{accepted-empty}
 use Rattle.checkpoints.specs.Slots.{slotCount}
 use Rattle.checkpoints.specs.Roll.{links, checkpoints, isRollOf}
-use Rattle.checkpoints.specs.Checkpoints.{laidAfter}
 use Rattle.checkpoints.proofs.Form.{linked, roll-of}
-use Rattle.append_roll.specs.AppendRoll.{due, isFull, appendRollAnswer, appendRollCall, checkpointChain, appendedRoll}
+use Rattle.append_roll.specs.AppendRoll.{due, isFull, appendRollAnswer, appendRollCall, appendedRoll}
 
 -- no checkpoint is due
 none-due : (r : Record) → due r 0 ≡ 0

@@ -1,7 +1,6 @@
 -- The arrays of a record have their lengths by their types. A statement about all records that are values of the type says so in this form.
 -- Assumes nothing.
 use mathlib.Core.Path.{_≡_}
-use Prim.Native.Nat.{ℕ}
 use lib.ListN.{length}
 use Rattle.runs.specs.Limits.{longestBlock}
 use Rattle.record.specs.declared.Record.{Record}

@@ -4,7 +4,7 @@ use mathlib.Core.Path.{_≡_, sym, ap, _∙_}
 use mathlib.Core.Bool.{true}
 use mathlib.Core.List.{List, [], _++_}
 use Prim.Native.Nat.{ℕ, suc, _+_, _-_, _*_, _/_, _≤_, _<_}
-use native.Mathlib.Nat.{mul-assoc, mul-comm, mul-le-mul-right, mul-div-cancel, le-trans}
+use native.Mathlib.Nat.{mul-assoc, mul-comm, mul-le-mul-right, mul-div-cancel}
 use native.Mathlib.Omega.{arith}
 use lib.ListN.{length, take, drop, getD, length-append, take-append-drop}
 use lib.Seq.{length-take-le, getD-take, getD-at}
@@ -15,10 +15,9 @@ use Rattle.lsh.specs.Padding.{firstBlocks}
 use Rattle.lsh.proofs.Figures.{block-some}
 use Rattle.runs.specs.Limits.{isDigestLength, limit}
 use Rattle.record.specs.declared.Record.{Record}
-use Rattle.record.specs.declared.Outcome.{Outcome}
 use Rattle.record.specs.Record.{recordOf, recordAt}
 use Rattle.record.proofs.Strings.{record-at}
-use Rattle.append.specs.Append.{appendAccepted, appendCall}
+use Rattle.append.specs.Append.{appendCall}
 use Rattle.append.proofs.Joins.{append-within}
 use Rattle.checkpoints.specs.Roll.{links, shown, spacing, checkpoints}
 use Rattle.checkpoints.proofs.Shown.{shown-many}

@@ -10,7 +10,7 @@ use borrow.Author.Tests.{eq-eqb, le-ltb}
 use lib.ListN.{length, take, drop, length-drop, take-append-drop}
 use lib.Seq.{length-take-le, take-all}
 use Rattle.lsh.specs.WordSize.{isWordSize}
-use Rattle.lsh.specs.Bits.{bitsOfByte, bitsOf, numberOf, bytesOfBits}
+use Rattle.lsh.specs.Bits.{bitsOfByte, numberOf, bytesOfBits}
 use Rattle.lsh.specs.Hash.{lsh}
 use Rattle.message.proofs.Bits.{low-zero}
 use Rattle.message.proofs.Back.{number-lt, bits-of-byte, length-bytes, whole-back, bits-bytes}
