@@ -1,15 +1,16 @@
 -- `tag::answer` meets its contract. Assumes nothing.
+use native.Mathlib.Omega.{arith}
 use borrow.Author.Needs.{needs}
 use Rattle.tag.proofs.Answers.{refused-first, passed-first}
 use Rattle.tag.proofs.answer.Statement.{statement}
 use Rattle.tag.proofs.answer.Tie as tie
 
--- `cc` names no call, so that an edit which makes them the other way round is refused at the equation.
+-- `omega` names no call, so that an edit which makes them the other way round is refused at the equation.
 pub answer-spec : {M : Type 1} → statement M
 answer-spec =
     tie.close
     (tie.spec
     (λ c κs. search needs)
-    (λ c. refused-first _ _ _ _ _ (c .if1 .taken) (cc))
+    (λ c. refused-first _ _ _ _ _ (c .if1 .taken) (omega arith))
     (λ c κs. search needs)
-    (λ c. passed-first _ _ _ _ _ (c .before .if1 .left) (cc) (cc)))
+    (λ c. passed-first _ _ _ _ _ (c .before .if1 .left) (omega arith) (omega arith)))
