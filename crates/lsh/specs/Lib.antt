@@ -1,4 +1,5 @@
--- In the order of document 001, section 2: words, figures and tables; a step and a block; the opening chain; the hash of a message.
+-- In the order of document 001, section 2: words, figures and tables; a step and a block; the opening chain; the hash of a message. Last the bench checks of
+-- document 01.
 pub mod Tabulate
 pub mod Word
 pub mod WordSize

@@ -52,7 +52,7 @@ unfolding bit
 bit-unset k y less = ap (λ (x : ℕ). eqb (x % 2) 1) (div-eq-of-lt less)
 
 -- the first k bits back from their number, as many as there are
-pub bits-of-number : (k : ℕ) (m : List Bool) → take (length m) (lowBits (numberOf k m) k) ≡ take k m
+bits-of-number : (k : ℕ) (m : List Bool) → take (length m) (lowBits (numberOf k m) k) ≡ take k m
 unfolding numberOf lowBits
 bits-of-number zero m = take-nil (length m)
 bits-of-number (suc k) [] = refl

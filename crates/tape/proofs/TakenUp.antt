@@ -45,7 +45,7 @@ module _ (w : ℕ) (word : isWordSize w ≡ true) (n : ℕ) (digest : isDigestLe
   chainAfter k = forwards Z (firstBlocks Z k s) (opening Z n)
 
   -- at any block
-  pub block-taken-up : (k : ℕ) → k * B ≤ length s → TakenUp w n k (chainAfter k) s
+  block-taken-up : (k : ℕ) → k * B ≤ length s → TakenUp w n k (chainAfter k) s
   unfolding wholeBlocks
   block-taken-up k le =
       let front : List ℕ = take (k * B) s in
@@ -78,7 +78,7 @@ module _ (w : ℕ) (word : isWordSize w ≡ true) (n : ℕ) (digest : isDigestLe
       let le : suc j * step w ≤ checkpoints w (length s) * step w = mul-le-mul-right (step w) less in
       omega (arith, e, le, within w (length s))
 
-  pub checkpoint-taken-up : (k : ℕ) (roll : List ℕ) → TapeRoll w n k s roll → (j : ℕ) → j < length (links Z roll)
+  checkpoint-taken-up : (k : ℕ) (roll : List ℕ) → TapeRoll w n k s roll → (j : ℕ) → j < length (links Z roll)
       → TakenUp w n (spacing * suc j) (getD (shown Z roll) j []) s
   checkpoint-taken-up k roll shows j less =
       let inside : j < checkpoints w (length s) =
