@@ -1,0 +1,3 @@
+-- Laws of answers and of outputs.
+pub mod Tests
+pub mod Output
