@@ -1,14 +1,13 @@
 -- Close on the record of a message is Whole on the message: the answers, the digests and the outputs are the same.
 -- Assumes nothing.
-use mathlib.Core.Path.{_≡_, refl, sym, ap, ap₂, _∙_}
-use mathlib.Core.Bool.{Bool, true, false, cond}
+use mathlib.Core.Path.{_≡_, sym, ap, ap₂, _∙_}
+use mathlib.Core.Bool.{true, false}
 use mathlib.Core.List.{List, _∷_, _++_}
 use Prim.Native.Nat.{ℕ, _+_, _-_, _*_, _%_, _≤_, _<_}
 use native.Mathlib.Nat.{mod-mod}
 use native.Mathlib.Omega.{arith}
-use borrow.Author.Tests.{le-ltb, eqb-true}
-use lib.Dec.{eqb}
-use lib.ListN.{length, take, drop, replicate}
+use borrow.Author.Tests.{le-ltb}
+use lib.ListN.{length, take, replicate}
 use lib.Seq.{length-take-le}
 use Rattle.lsh.specs.WordSize.{WordSize, isWordSize, sizeOf, blockBytes}
 use Rattle.lsh.specs.Block.{forwards}
@@ -21,6 +20,8 @@ use Rattle.lsh.specs.ByteString.{Bytes}
 use Rattle.lsh.proofs.Blocks.{forwards-append}
 use Rattle.lsh.proofs.Padding.{length-rest, rest-bytes, blocks-append}
 use Rattle.message.proofs.Padded.{padded-rest}
+use Rattle.answers.specs.Output.{written}
+use Rattle.answers.proofs.Output.{same-written}
 use Rattle.runs.specs.Limits.{isDigestLength, limit}
 use Rattle.record.specs.declared.Record.{Record}
 use Rattle.record.specs.Record.{heldBytes, recordOf}
@@ -82,24 +83,11 @@ module _ (w n : ℕ) (m : List ℕ) (word : isWordSize w ≡ true) (last e : ℕ
     unfolding closeAnswer wholeAnswer
     same-answer size = rw (record-sound w n m word digestLength within, word, digestLength, le-ltb limit (length m) within)
 
-    module _ (bytes : Bytes m) (output : List ℕ) where
-      abbrev answer : ℕ
-      answer = wholeAnswer w n (length m) last e (length output)
-
-      -- the output with the receipt of a digest and a length at its front
-      abbrev written : List Bool → ℕ → List ℕ
-      written d bits = receipt w n d bits ++ drop receiptBytes output
-
-      by-answer : (b : Bool) → eqb answer 0 ≡ b
-          → cond b (written (closedDigest R last e) (8 * length m + e)) output
-          ≡ cond b (written (lsh w n (messageBits m last e)) (length (messageBits m last e))) output
-      by-answer true is =
-          let few : e ≤ 7 = accepted w n (length m) last e (length output) (eqb-true answer 0 is) .end .extra in
-          ap₂ written (closed-digest bytes few) (sym (message-length m last e few))
-      by-answer false is = refl
-
-      pub same-output : closeOutput R last e output ≡ wholeOutput w n m last e output
-      unfolding closeOutput wholeOutput recordOf
-      same-output =
-          ap (λ (a : ℕ). cond (eqb a 0) (written (closedDigest R last e) (8 * length m + e)) output) (same-answer (length output))
-          ∙ by-answer (eqb answer 0) refl
+    pub same-output : Bytes m → (output : List ℕ) → closeOutput R last e output ≡ wholeOutput w n m last e output
+    unfolding closeOutput wholeOutput recordOf
+    same-output bytes output =
+        ap (λ (a : ℕ). written a receiptBytes (receipt w n (closedDigest R last e) (8 * length m + e)) output) (same-answer (length output))
+        ∙ same-written (wholeAnswer w n (length m) last e (length output)) receiptBytes (receipt w n (closedDigest R last e) (8 * length m + e)) output
+        (λ is.
+        let few : e ≤ 7 = accepted w n (length m) last e (length output) is .end .extra in
+        ap₂ (receipt w n) (closed-digest bytes few) (sym (message-length m last e few)))

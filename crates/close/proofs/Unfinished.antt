@@ -1,11 +1,11 @@
 -- Close does not depend on how far a split rewind is.
 -- Assumes nothing.
 use mathlib.Core.Path.{_≡_, ap}
-use mathlib.Core.Bool.{true, cond}
-use mathlib.Core.List.{List, _++_}
+use mathlib.Core.Bool.{true}
+use mathlib.Core.List.{List}
 use Prim.Native.Nat.{ℕ, _+_, _*_}
-use lib.Dec.{eqb}
-use lib.ListN.{length, drop}
+use lib.ListN.{length}
+use Rattle.answers.specs.Output.{written}
 use Rattle.record.specs.declared.Record.{Record}
 use Rattle.record.specs.declared.Split.{Split}
 use Rattle.record.specs.Record.{sound, heldBytes, withSplit}
@@ -20,5 +20,5 @@ module _ (r : Record) (s : Split) (ok : sound r ≡ true) (still : sound (withSp
   pub same-output-unfinished : (output : List ℕ) → closeOutput (withSplit r s) last e output ≡ closeOutput r last e output
   unfolding closeOutput closedDigest heldBytes withSplit
   same-output-unfinished output =
-      ap (λ (a : ℕ). cond (eqb a 0) (receipt (r .w) (r .n) (closedDigest r last e) (8 * r .total + e) ++ drop receiptBytes output) output)
+      ap (λ (a : ℕ). written a receiptBytes (receipt (r .w) (r .n) (closedDigest r last e) (8 * r .total + e)) output)
       (same-answer-unfinished (length output))

@@ -19,6 +19,7 @@ use Rattle.lsh.proofs.Figures.{bits-are}
 use Rattle.lsh.proofs.Bytes.{octets, word-bytes}
 use Rattle.message.proofs.Bits.{length-bits, low-zero}
 use Rattle.message.proofs.Back.{length-bytes}
+use Rattle.answers.proofs.Output.{written-is}
 use Rattle.runs.specs.Limits.{longestDigest, isDigestLength, limit}
 use Rattle.runs.proofs.Limits.{digest-most, digest-longest}
 use Rattle.runs.proofs.Zeros.{filled-length}
@@ -167,7 +168,7 @@ whole-written w n m last e output is =
     (digest-long w n _ (a .wordSize) (a .digestLength))
     (omega (arith, message-length m last e (a .end .extra), a .within, a .end .extra))
     (drop receiptBytes output)
-    (rw (eq-eqb (wholeAnswer w n (length m) last e (length output)) 0 is))
+    (written-is _ receiptBytes _ output is)
 
 pub close-written : (r : Record) (last e : ℕ) (output : List ℕ) → closeAnswer r last e (length output) ≡ 0
     → Written (r .w) (r .n) (closedDigest r last e) (8 * r .total + e) (take receiptBytes (closeOutput r last e output))
@@ -179,4 +180,4 @@ close-written r last e output is =
     (digest-long (r .w) (r .n) _ (s .word) (s .digestLength))
     (omega (arith, s .few, a .end .extra))
     (drop receiptBytes output)
-    (rw (eq-eqb (closeAnswer r last e (length output)) 0 is))
+    (written-is _ receiptBytes _ output is)

@@ -12,6 +12,7 @@ use Rattle.lsh.specs.Bits.{bitsOf, bytesOfBits}
 use Rattle.lsh.specs.Hash.{lsh}
 use Rattle.lsh.specs.ByteString.{Bytes}
 use Rattle.lsh.proofs.Bytes.{bytes-append}
+use Rattle.answers.specs.Output.{written}
 use Rattle.runs.specs.Limits.{limit}
 use Rattle.record.specs.declared.Record.{Record}
 use Rattle.record.specs.Record.{sound, recordOf}
@@ -21,8 +22,7 @@ use Rattle.close.specs.Close.{closedDigest}
 use Rattle.close.proofs.Messages.{closed-digest}
 use Rattle.hmac.specs.Hmac.{hashBytes, innerKey, tagOf, hmac}
 use Rattle.hmac.proofs.Keys.{inner-length, inner-bytes}
-use Rattle.tag.specs.KeyAnswer.{isWholeBytes, keyAnswer}
-use Rattle.tag.specs.WithTag.{withTag}
+use Rattle.tag.specs.KeyAnswer.{isWholeBytes, tagBytes, keyAnswer}
 use Rattle.tag.specs.Tag.{tagAnswer, tagOutput}
 use Rattle.tag.specs.Finish.{finishAnswer, finishOutput}
 use Rattle.tag.proofs.Answers.{Keyed}
@@ -53,5 +53,5 @@ module _ (w n : ℕ) (key m : List ℕ) (ok : Keyed w n (length key) (length m))
   pub same-output : Bytes m → (output : List ℕ) → finishOutput R key output ≡ tagOutput w n key m output
   unfolding finishOutput tagOutput hmac recordOf
   same-output bytes output =
-      ap₂ (λ (a : ℕ) (d : List ℕ). withTag a n (tagOf w n key d) output) (same-answer (length output))
+      ap₂ (λ (a : ℕ) (d : List ℕ). written a (tagBytes n) (tagOf w n key d) output) (same-answer (length output))
       (inner-digest w n (innerKey w n key ++ m) (ok .wordSize) (bytes-append (innerKey w n key) m (inner-bytes w n key) bytes))

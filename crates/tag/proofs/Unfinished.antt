@@ -6,12 +6,13 @@ use mathlib.Core.List.{List}
 use Prim.Native.Nat.{ℕ}
 use lib.ListN.{length}
 use Rattle.lsh.specs.Bits.{bytesOfBits}
+use Rattle.answers.specs.Output.{written}
 use Rattle.record.specs.declared.Record.{Record}
 use Rattle.record.specs.declared.Split.{Split}
 use Rattle.record.specs.Record.{sound, heldBytes, withSplit}
 use Rattle.close.specs.Close.{closedDigest}
 use Rattle.hmac.specs.Hmac.{tagOf}
-use Rattle.tag.specs.WithTag.{withTag}
+use Rattle.tag.specs.KeyAnswer.{tagBytes}
 use Rattle.tag.specs.Finish.{finishAnswer, finishOutput}
 
 module _ (r : Record) (s : Split) (ok : sound r ≡ true) (still : sound (withSplit r s) ≡ true) where
@@ -22,5 +23,5 @@ module _ (r : Record) (s : Split) (ok : sound r ≡ true) (still : sound (withSp
   pub finish-output-unfinished : (key output : List ℕ) → finishOutput (withSplit r s) key output ≡ finishOutput r key output
   unfolding finishOutput closedDigest heldBytes withSplit
   finish-output-unfinished key output =
-      ap (λ (a : ℕ). withTag a (r .n) (tagOf (r .w) (r .n) key (bytesOfBits (closedDigest r 0 0))) output)
+      ap (λ (a : ℕ). written a (tagBytes (r .n)) (tagOf (r .w) (r .n) key (bytesOfBits (closedDigest r 0 0))) output)
       (finish-answer-unfinished (length key) (length output))

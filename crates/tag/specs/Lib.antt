@@ -1,5 +1,4 @@
 pub mod KeyAnswer
-pub mod WithTag
 pub mod Tag
 pub mod Start
 pub mod Finish
