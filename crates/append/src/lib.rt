@@ -24,11 +24,9 @@ struct Taken {
 pub fn append(r: Record, piece: &[u8]) -> Outcome
     ensures { λ o. ⌜ o ≡ appendCall r (now (piece .entry)) ⌝ }
 {
-    if !record::is_sound(r) {
-        return record::refused(3, r);
-    }
-    if record::is_begun(r) {
-        return record::refused(17, r);
+    let a = record::turn(r, record::is_begun(r));
+    if a != 0 {
+        return record::refused(a, r);
     }
     let total = r.total;
     if runs::LIMIT as u64 - total < piece.len() as u64 {

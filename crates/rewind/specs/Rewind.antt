@@ -13,7 +13,8 @@ use Rattle.equal.specs.Equal.{equal}
 use Rattle.record.specs.declared.Record.{Record}
 use Rattle.record.specs.declared.Outcome.{Outcome}
 use Rattle.record.specs.Split.{notBegun}
-use Rattle.record.specs.Record.{heldOf, heldLength, heldBytes, sound, isBegun, refused}
+use Rattle.record.specs.Record.{heldOf, heldLength, heldBytes, isBegun, refused}
+use Rattle.record.specs.Turn.{inTurn}
 
 -- 6, with blocks of b bytes: the size bytes handed back are more than the total, or do not begin with a block
 unfoldable pub startsOffBlock : ℕ → ℕ → ℕ → Bool
@@ -46,12 +47,14 @@ woundBack r size keep c s =
     cond (openingDiffers r size c) (refused 9 r)
     (record { number = 0; count = size / blockBytes (sizeOf (r .w)); next = rewound r size keep c s })
 
--- Rewind: 3 if the record is not sound, then 17 if a split rewind is begun, and then 6, 7, 8, 9, else 0
-unfoldable pub rewindCall : Record → ℕ → List ℕ → Outcome
-rewindCall r keep h =
-    cond (not (sound r)) (refused 3 r)
-    (cond (isBegun r) (refused 17 r)
-    (cond (startsOffBlock (blockBytes (sizeOf (r .w))) (r .total) (length h)) (refused 6 r)
+-- a Rewind in turn: 6, 7, 8, 9, else 0
+unfoldable pub rewindInTurn : Record → ℕ → List ℕ → Outcome
+rewindInTurn r keep h =
+    cond (startsOffBlock (blockBytes (sizeOf (r .w))) (r .total) (length h)) (refused 6 r)
     (cond (keepsTooMuch (blockBytes (sizeOf (r .w))) keep (length h)) (refused 7 r)
     (cond (heldDiffers r h) (refused 8 r)
-    (woundBack r (length h) keep (reached r h) h)))))
+    (woundBack r (length h) keep (reached r h) h)))
+
+-- Rewind: out of turn while a split rewind is begun
+unfoldable pub rewindCall : Record → ℕ → List ℕ → Outcome
+rewindCall r keep h = inTurn r (isBegun r) (rewindInTurn r keep h)

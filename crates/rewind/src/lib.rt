@@ -8,8 +8,8 @@ ghost use Rattle.lsh.specs.WordSize.{isWordSize, sizeOf, blockBytes};
 ghost use Rattle.lsh.specs.Opening.{opening};
 ghost use Rattle.runs.specs.Limits.{isDigestLength};
 ghost use Rattle.equal.specs.Equal.{equal};
-ghost use Rattle.record.specs.Record.{heldLength, sound, isBegun};
-ghost use Rattle.rewind.specs.Rewind.{startsOffBlock, keepsTooMuch, heldDiffers, woundBack, rewindCall};
+ghost use Rattle.record.specs.Record.{heldLength, sound};
+ghost use Rattle.rewind.specs.Rewind.{startsOffBlock, keepsTooMuch, heldDiffers, woundBack, rewindInTurn, rewindCall};
 use record::Outcome;
 use record::Record;
 
@@ -17,12 +17,18 @@ use record::Record;
 pub fn rewind(r: Record, keep: u64, h: &[u8]) -> Outcome
     ensures { λ o. ⌜ o ≡ rewindCall r keep (now (h .entry)) ⌝ }
 {
-    if !record::is_sound(r) {
-        return record::refused(3, r);
+    let a = record::turn(r, record::is_begun(r));
+    if a != 0 {
+        return record::refused(a, r);
     }
-    if record::is_begun(r) {
-        return record::refused(17, r);
-    }
+    in_turn(r, keep, h)
+}
+
+// The answer where the call is in turn.
+pub fn in_turn(r: Record, keep: u64, h: &[u8]) -> Outcome
+    requires { ⌜ sound r ≡ true ⌝ }
+    ensures { λ o. ⌜ o ≡ rewindInTurn r keep (now (h .entry)) ⌝ }
+{
     let size = h.len() as u64;
     if starts_off_block(r.w, r.total, size) {
         return record::refused(6, r);
@@ -54,10 +60,9 @@ pub fn keeps_too_much(w: u64, keep: u64, size: u64) -> bool
 // Where the lengths are right.
 fn rewind_bytes(r: Record, keep: u64, h: &[u8]) -> Outcome
     requires { ⌜ (sound r ≡ true)
-        × (isBegun r ≡ false)
         × (startsOffBlock (blockBytes (sizeOf (r .w))) (r .total) (length (now h)) ≡ false)
         × (keepsTooMuch (blockBytes (sizeOf (r .w))) keep (length (now h)) ≡ false) ⌝ }
-    ensures { λ o. ⌜ o ≡ rewindCall r keep (now (h .entry)) ⌝ }
+    ensures { λ o. ⌜ o ≡ rewindInTurn r keep (now (h .entry)) ⌝ }
 {
     if held_differs(r, h) {
         return record::refused(8, r);

@@ -8,7 +8,7 @@ ghost use Rattle.record.specs.Record.{sound, isBegun};
 ghost use Rattle.rewind.specs.Rewind.{keepsTooMuch, woundBack};
 ghost use Rattle.split_rewind.specs.Begin.{beginCall};
 ghost use Rattle.split_rewind.specs.HandBack.{noBlock, handedBack, handBackCall};
-ghost use Rattle.split_rewind.specs.End.{handed, lastBytes, endCall};
+ghost use Rattle.split_rewind.specs.End.{handed, lastBytes, endInTurn, endCall};
 ghost use Rattle.split_rewind.specs.Abandon.{abandonCall};
 use record::Outcome;
 use record::Record;
@@ -18,11 +18,9 @@ use record::Split;
 pub fn begin(r: Record, bytes: &[u8]) -> Outcome
     ensures { λ o. ⌜ o ≡ beginCall r (now (bytes .entry)) ⌝ }
 {
-    if !record::is_sound(r) {
-        return record::refused(3, r);
-    }
-    if record::is_begun(r) {
-        return record::refused(17, r);
+    let a = record::turn(r, record::is_begun(r));
+    if a != 0 {
+        return record::refused(a, r);
     }
     if bytes.len() != record::held_length(r.w, r.total) {
         return record::refused(6, r);
@@ -45,11 +43,9 @@ pub fn begin(r: Record, bytes: &[u8]) -> Outcome
 pub fn hand_back(r: Record, block: &[u8]) -> Outcome
     ensures { λ o. ⌜ o ≡ handBackCall r (now (block .entry)) ⌝ }
 {
-    if !record::is_sound(r) {
-        return record::refused(3, r);
-    }
-    if !record::is_begun(r) {
-        return record::refused(17, r);
+    let a = record::turn(r, !record::is_begun(r));
+    if a != 0 {
+        return record::refused(a, r);
     }
     if no_block(r.w, r.total, r.split.blocks, block.len()) {
         return record::refused(6, r);
@@ -90,12 +86,18 @@ fn handed_back(r: Record, block: &[u8]) -> Split
 pub fn end(r: Record, keep: u64) -> Outcome
     ensures { λ o. ⌜ o ≡ endCall r keep ⌝ }
 {
-    if !record::is_sound(r) {
-        return record::refused(3, r);
+    let a = record::turn(r, !record::is_begun(r));
+    if a != 0 {
+        return record::refused(a, r);
     }
-    if !record::is_begun(r) {
-        return record::refused(17, r);
-    }
+    in_turn(r, keep)
+}
+
+// The answer where the call is in turn.
+pub fn in_turn(r: Record, keep: u64) -> Outcome
+    requires { ⌜ (sound r ≡ true) × (isBegun r ≡ true) ⌝ }
+    ensures { λ o. ⌜ o ≡ endInTurn r keep ⌝ }
+{
     let size = handed(r);
     if rewind::keeps_too_much(r.w, keep, size) {
         return record::refused(7, r);
@@ -133,11 +135,9 @@ fn remaining(r: Record, size: u64, keep: u64) -> Outcome
 pub fn abandon(r: Record) -> Outcome
     ensures { λ o. ⌜ o ≡ abandonCall r ⌝ }
 {
-    if !record::is_sound(r) {
-        return record::refused(3, r);
-    }
-    if !record::is_begun(r) {
-        return record::refused(17, r);
+    let a = record::turn(r, !record::is_begun(r));
+    if a != 0 {
+        return record::refused(a, r);
     }
     let none = record::not_begun();
     record::stepped(r, none)
