@@ -21,6 +21,7 @@ use Rattle.lsh.proofs.Splitting.{blocks-split}
 use Rattle.runs.specs.Limits.{longestBlock}
 use Rattle.equal.specs.Equal.{equal}
 use Rattle.equal.proofs.Equal.{equal-self, equal-true}
+use Rattle.answers.proofs.Tests.{test, tested, passed}
 use Rattle.record.specs.declared.Record.{Record}
 use Rattle.record.specs.declared.Split.{Split}
 use Rattle.record.specs.declared.Outcome.{Outcome}
@@ -29,36 +30,16 @@ use Rattle.record.specs.Record.{heldOf, heldLength, heldBytes, sound, isBegun, 
 use Rattle.record.specs.Arrays.{Arrays}
 use Rattle.record.proofs.Sound.{Sound, sounds, chain-is, chain-below}
 use Rattle.record.proofs.Begun.{OneBegun, one-begun-sound, with-sound, none-is}
+use Rattle.record.proofs.InTurn.{in-turn, accepted-in-turn}
 use Rattle.record.proofs.Strings.{filled-zero}
-use Rattle.rewind.specs.Rewind.{keepsTooMuch, heldDiffers, reached, openingDiffers, rewound, woundBack, rewindCall}
+use Rattle.rewind.specs.Rewind.{keepsTooMuch, heldDiffers, reached, openingDiffers, rewound, woundBack, rewindInTurn, rewindCall}
 use Rattle.rewind.proofs.Lengths.{OnBlock, starts-on, keeps-few}
 use Rattle.split_rewind.specs.Begin.{begun, beginCall}
 use Rattle.split_rewind.specs.HandBack.{noBlock, handedBack, handBackCall}
-use Rattle.split_rewind.specs.End.{handed, lastBytes, endCall}
+use Rattle.split_rewind.specs.End.{handed, lastBytes, endInTurn, endCall}
 use Rattle.split_rewind.specs.Abandon.{abandonCall}
 use Rattle.split_rewind.specs.OneRewind.{afterBlocks, BlocksAccepted, afterSteps, StepsAccepted, answeredOn, joined}
 use Rattle.split_rewind.proofs.Lengths.{a-block, blocks-on}
-
--- an accepted step passed every test
-begin-through : (a b c d : Bool) (r : Record) (s : Split)
-    → cond (not a) (refused 3 r) (cond b (refused 17 r) (cond (not c) (refused 6 r) (cond d (refused 8 r) (stepped r s)))) .number ≡ 0
-    → (a ≡ true) × (b ≡ false) × (c ≡ true) × (d ≡ false)
-    × (cond (not a) (refused 3 r) (cond b (refused 17 r) (cond (not c) (refused 6 r) (cond d (refused 8 r) (stepped r s)))) .next ≡ withSplit r s)
-unfolding refused stepped
-begin-through true false true false r s e = (refl, refl, refl, refl, refl)
-begin-through true false true true r s e = absurd (omega arith)
-begin-through true false false d r s e = absurd (omega arith)
-begin-through true true c d r s e = absurd (omega arith)
-begin-through false b c d r s e = absurd (omega arith)
-
-block-through : (a b c : Bool) (r : Record) (s : Split)
-    → cond (not a) (refused 3 r) (cond (not b) (refused 17 r) (cond c (refused 6 r) (stepped r s))) .number ≡ 0
-    → (c ≡ false) × (cond (not a) (refused 3 r) (cond (not b) (refused 17 r) (cond c (refused 6 r) (stepped r s))) .next ≡ withSplit r s)
-unfolding refused stepped
-block-through true true false r s e = (refl, refl)
-block-through true true true r s e = absurd (omega arith)
-block-through true false c r s e = absurd (omega arith)
-block-through false b c r s e = absurd (omega arith)
 
 module _ (r : Record) (arrays : Arrays r) (ok : sound r ≡ true) (idle : isBegun r ≡ false) where
   abbrev Z : WordSize
@@ -149,12 +130,13 @@ module _ (r : Record) (arrays : Arrays r) (ok : sound r ≡ true) (idle : isBegu
   -- one hand-back more
   accepted-block : (h : List ℕ) (s : Split) (b : List ℕ) → Handed h s → handBackCall (withSplit r s) b .number ≡ 0
       → After (b ++ h) (handBackCall (withSplit r s) b .next)
-  unfolding handBackCall withSplit
+  unfolding handBackCall withSplit refused stepped
   accepted-block h s b had e =
       let x : Record = withSplit r s in
-      let through = block-through (sound x) (isBegun x) (noBlock B (r .total) (s .blocks) (length b)) x (handedBack x b) e in
-      let block : (length b ≡ B) × (s .blocks < r .total / B) = a-block B (r .total) (s .blocks) (length b) (through .0) in
-      record { split = handedBack x b; is = through .1; handed = handed-more h s b had (block .0) (block .1) }
+      let turn = accepted-in-turn x (cond (noBlock B (r .total) (s .blocks) (length b)) (refused 6 x) (stepped x (handedBack x b))) e .2 in
+      let p = passed (λ (o : Outcome). o .number) (test (noBlock B (r .total) (s .blocks) (length b)) (refused 6 x) ∷ []) (stepped x (handedBack x b)) refl (ap (λ (o : Outcome). o .number) (sym turn) ∙ e) in
+      let block : (length b ≡ B) × (s .blocks < r .total / B) = a-block B (r .total) (s .blocks) (length b) (p .0 0) in
+      record { split = handedBack x b; is = ap (λ (o : Outcome). o .next) (turn ∙ p .1); handed = handed-more h s b had (block .0) (block .1) }
 
   block-after : (h : List ℕ) (x : Record) (b : List ℕ) → After h x → handBackCall x b .number ≡ 0 → After (b ++ h) (handBackCall x b .next)
   block-after h x b had = subst (λ (y : Record). handBackCall y b .number ≡ 0 → After (b ++ h) (handBackCall y b .next)) (sym (had .is)) (accepted-block h (had .split) b (had .handed))
@@ -210,14 +192,14 @@ module _ (r : Record) (arrays : Arrays r) (ok : sound r ≡ true) (idle : isBegu
 
     -- the two calls
     pub end-is : sound y ≡ true → isBegun y ≡ true → endCall y keep ≡ cond (keepsTooMuch B keep size) (refused 7 y) (woundBack y size keep c (lastBytes y))
-    unfolding endCall handed withSplit
-    end-is sound-y begun-y = rw (sound-y, begun-y, ← had .size, had .second)
+    unfolding endCall endInTurn handed withSplit
+    end-is sound-y begun-y = in-turn y sound-y _ (rw begun-y) ∙ rw (← had .size, had .second)
 
     rewind-is : rewindCall r keep h ≡ cond (keepsTooMuch B keep size) (refused 7 r) (woundBack r size keep c h)
-    unfolding rewindCall heldDiffers
+    unfolding rewindCall rewindInTurn heldDiffers
     rewind-is =
         let on : OnBlock B (r .total) size = subst (OnBlock B (r .total)) (sym (had .size)) (blocks-on B (r .total) (s .blocks) (had .one .upTo)) in
-        rw (ok, idle, starts-on B (r .total) size on, had .held, equal-self (heldBytes r))
+        in-turn r ok _ idle ∙ rw (starts-on B (r .total) size on, had .held, equal-self (heldBytes r))
 
 -- a begin that is accepted is on a sound record with none begun, and brings the held bytes
 pub record Begins (r : Record) (h : List ℕ) : Type 0 where
@@ -228,10 +210,19 @@ pub record Begins (r : Record) (h : List ℕ) : Type 0 where
   pub next : beginCall r h .next ≡ withSplit r (begun r)
 
 begins : (r : Record) (h : List ℕ) → beginCall r h .number ≡ 0 → Begins r h
-unfolding beginCall
+unfolding beginCall refused stepped
 begins r h e =
-    let p = begin-through (sound r) (isBegun r) (eqb (length h) (heldLength (r .w) (r .total))) (heldDiffers r h) r (begun r) e in
-    record { ok = p .0; idle = p .1; size = eqb-true (length h) (heldLength (r .w) (r .total)) (p .2); same = p .3; next = p .4 }
+    let fill = heldLength (r .w) (r .total) in
+    let ts = test (not (eqb (length h) fill)) (refused 6 r) ∷ test (heldDiffers r h) (refused 8 r) ∷ [] in
+    let turn = accepted-in-turn r (tested ts (stepped r (begun r))) e in
+    let p = passed (λ (o : Outcome). o .number) ts (stepped r (begun r)) refl (ap (λ (o : Outcome). o .number) (sym (turn .2)) ∙ e) in
+    record {
+      ok = turn .0;
+      idle = turn .1;
+      size = eqb-true (length h) fill (not-false (eqb (length h) fill) (p .0 0));
+      same = p .0 1;
+      next = ap (λ (o : Outcome). o .next) (turn .2 ∙ p .1);
+    }
 
 module _ (r : Record) (arrays : Arrays r) (h : List ℕ) (bs : List (List ℕ)) (accepted : StepsAccepted r h bs) where
   abbrev x : Record
@@ -272,7 +263,7 @@ module _ (r : Record) (arrays : Arrays r) (h : List ℕ) (bs : List (List ℕ)) 
   -- abandoning restores it
   pub abandoned : _≡_ {A = Outcome} (abandonCall x) (record { number = 0; count = 0; next = r })
   unfolding abandonCall stepped
-  abandoned = rw (x-sound, x-begun) (ap (λ (y : Record). record { number = 0; count = 0; next = y }) as-before)
+  abandoned = in-turn x x-sound _ (rw x-begun) ∙ ap (λ (y : Record). record { number = 0; count = 0; next = y }) as-before
 
   -- the end is that of one Rewind
   pub one-rewind : (keep : ℕ) → endCall x keep ≡ answeredOn x (rewindCall r keep all)
