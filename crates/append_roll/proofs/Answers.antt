@@ -2,7 +2,7 @@
 -- Assumes nothing.
 use mathlib.Core.Path.{_≡_, refl, sym, ap, _∙_}
 use mathlib.Core.Bool.{Bool, true, false, not, cond}
-use mathlib.Core.List.{List}
+use mathlib.Core.List.{List, [], _∷_}
 use Prim.Native.Nat.{ℕ, _+_, _-_, _≤_}
 use native.Mathlib.Nat.{div-le-self}
 use native.Mathlib.Omega.{arith}
@@ -10,15 +10,19 @@ use lib.Dec.{eqb, ltb}
 use lib.ListN.{length}
 use borrow.Author.Tests.{eq-eqb, ne-eqb, ltb-false}
 use Rattle.lsh.specs.WordSize.{sizeOf, blockBytes}
+use Rattle.answers.proofs.Tests.{test, passed}
+use Rattle.answers.proofs.First.{both-passed}
 use Rattle.runs.specs.Limits.{limit}
 use Rattle.record.specs.declared.Record.{Record}
 use Rattle.record.specs.Record.{sound, isBegun, refused}
+use Rattle.record.proofs.InTurn.{answered-refused, answered-rest}
 use Rattle.append.specs.Append.{appendAccepted}
 use Rattle.checkpoints.specs.Slots.{slotCount}
-use Rattle.checkpoints.specs.Roll.{links, checkpoints, isRollOf}
+use Rattle.checkpoints.specs.Roll.{links, checkpoints, isRollOf, rollAnswer}
 use Rattle.checkpoints.specs.Checkpoints.{laidAfter}
 use Rattle.checkpoints.proofs.Spacing.{no-fewer}
 use Rattle.checkpoints.proofs.Form.{roll-of}
+use Rattle.checkpoints.proofs.InTurn.{roll-passed}
 use Rattle.append_roll.specs.AppendRoll.{due, isFull, appendRollAnswer, appendRollCall, checkpointChain, appendedRoll}
 
 -- a call that is accepted passed every test
@@ -33,23 +37,18 @@ pub accepted : (r : Record) (size : ℕ) (roll : List ℕ) → appendRollAnswer 
 unfolding appendRollAnswer isFull
 accepted r size roll e =
     let z = sizeOf (r .w) in
-    let p = tests (sound r) (isBegun r) (isRollOf r roll) (ltb limit (r .total + size)) (ltb (slotCount z (length roll)) (length (links z roll) + due r size)) e in
+    let over = ltb limit (r .total + size) in
+    let full = isFull r size roll in
+    let both = both-passed (rollAnswer r (isBegun r) roll) (cond over 5 (cond full 16 0)) e in
+    let of = roll-passed r (isBegun r) roll (both .0) in
+    let p = passed (λ (k : ℕ). k) (test over 5 ∷ test full 16 ∷ []) 0 refl (both .1) .0 in
     record {
-      taken = p .0;
-      idle = p .1;
-      rollOf = p .2;
-      within = ltb-false limit (r .total + size) (p .3);
-      room = ltb-false (slotCount z (length roll)) (length (links z roll) + due r size) (p .4);
+      taken = of .0;
+      idle = of .1;
+      rollOf = of .2;
+      within = ltb-false limit (r .total + size) (p 0);
+      room = ltb-false (slotCount z (length roll)) (length (links z roll) + due r size) (p 1);
     }
-  where
-    tests : (a i b c d : Bool) → _≡_ {A = ℕ} (cond (not a) 3 (cond i 17 (cond (not b) 15 (cond c 5 (cond d 16 0))))) 0
-        → (a ≡ true) × (i ≡ false) × (b ≡ true) × (c ≡ false) × (d ≡ false)
-    tests true false true false false e = (refl, refl, refl, refl, refl)
-    tests true false true false true e = absurd (omega arith)
-    tests true false true true d e = absurd (omega arith)
-    tests true false false c d e = absurd (omega arith)
-    tests true true b c d e = absurd (omega arith)
-    tests false i b c d e = absurd (omega arith)
 
 -- the links of a roll of the record and the checkpoints due are the checkpoints of the order with the piece
 pub full-is : (r : Record) (size : ℕ) (roll : List ℕ) → isRollOf r roll ≡ true
@@ -74,9 +73,10 @@ goal-of r piece roll = laidAfter (sizeOf (r .w)) (checkpointChain r piece) (chec
 module _ (r : Record) (piece roll : List ℕ) {a : ℕ} (is : a ≡ appendRollAnswer r (length piece) roll) where
   pub refused-call : (a ≡ 0 → ⊥) → (refused a r ≡ appendRollCall r piece roll) × (roll ≡ appendedRoll r piece roll)
   unfolding appendRollCall appendedRoll
-  refused-call ne =
-      let n : eqb (appendRollAnswer r (length piece) roll) 0 ≡ false = ne-eqb (appendRollAnswer r (length piece) roll) 0 (λ e. ne (is ∙ e)) in
-      (rw n (ap (λ (k : ℕ). refused k r) is), rw n)
+  refused-call ne = (
+    answered-refused (appendRollAnswer r (length piece) roll) r (appendAccepted r piece) is ne,
+    rw (ne-eqb (appendRollAnswer r (length piece) roll) 0 (λ e. ne (is ∙ e))),
+  )
 
   pub accepted-roll : a ≡ 0 → goal-of r piece roll ≡ appendedRoll r piece roll
   unfolding appendedRoll
@@ -84,4 +84,4 @@ module _ (r : Record) (piece roll : List ℕ) {a : ℕ} (is : a ≡ appendRollAn
 
   pub accepted-call : a ≡ 0 → appendAccepted r piece ≡ appendRollCall r piece roll
   unfolding appendRollCall
-  accepted-call e = rw (eq-eqb (appendRollAnswer r (length piece) roll) 0 (sym is ∙ e))
+  accepted-call e = answered-rest (appendRollAnswer r (length piece) roll) r (appendAccepted r piece) (sym is ∙ e)

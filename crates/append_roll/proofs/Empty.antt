@@ -10,16 +10,19 @@ use borrow.Author.Tests.{le-ltb}
 use lib.Dec.{eqb}
 use lib.ListN.{length}
 use Rattle.lsh.specs.WordSize.{sizeOf}
+use Rattle.answers.specs.First.{first}
 use Rattle.runs.specs.Limits.{limit}
 use Rattle.record.specs.declared.Record.{Record}
 use Rattle.record.specs.declared.Outcome.{Outcome}
 use Rattle.record.specs.Record.{sound, isBegun}
+use Rattle.record.specs.Turn.{answered}
 use Rattle.record.specs.Arrays.{Arrays}
 use Rattle.record.proofs.Sound.{sounds}
 use Rattle.append.proofs.Empty.{accepted-empty}
 use Rattle.checkpoints.specs.Slots.{slotCount}
 use Rattle.checkpoints.specs.Roll.{links, checkpoints, isRollOf}
 use Rattle.checkpoints.proofs.Form.{linked, roll-of}
+use Rattle.checkpoints.proofs.InTurn.{roll-in-turn}
 use Rattle.append_roll.specs.AppendRoll.{due, isFull, appendRollAnswer, appendRollCall, appendedRoll}
 
 -- no checkpoint is due
@@ -45,6 +48,6 @@ room-empty r roll of =
 
 pub append-roll-empty : (r : Record) → Arrays r → sound r ≡ true → isBegun r ≡ false → (roll : List ℕ) → isRollOf r roll ≡ true
     → _≡_ {A = Outcome} (appendRollCall r [] roll) (record { number = 0; count = 0; next = r })
-unfolding appendRollCall appendRollAnswer
+unfolding appendRollCall appendRollAnswer first answered
 append-roll-empty r arrays ok idle roll of =
-    rw (ok, idle, of, le-ltb limit (r .total + 0) (omega (arith, sounds r ok .few)), room-empty r roll of) (accepted-empty r arrays ok)
+    rw (roll-in-turn r (isBegun r) roll ok idle, of, le-ltb limit (r .total + 0) (omega (arith, sounds r ok .few)), room-empty r roll of) (accepted-empty r arrays ok)

@@ -45,14 +45,9 @@ pub fn append_roll(r: Record, piece: &[u8], roll: &mut [u8]) -> Outcome
 fn answer(r: Record, size: usize, y: Way) -> u32
     ensures { λ a. ⌜ ((roll : List ℕ) → y ≡ wayOf (sizeOf (r .w)) roll → a ≡ appendRollAnswer r size roll) ⌝ }
 {
-    if !record::is_sound(r) {
-        return 3;
-    }
-    if record::is_begun(r) {
-        return 17;
-    }
-    if !roll::is_roll_of(y, r) {
-        return 15;
+    let a = roll::turn(r, record::is_begun(r), y);
+    if a != 0 {
+        return a;
     }
     let total = r.total;
     if runs::LIMIT as u64 - total < size as u64 {

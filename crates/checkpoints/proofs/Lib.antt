@@ -6,3 +6,4 @@ pub mod Writes
 pub mod Form
 pub mod Shown
 pub mod Spacing
+pub mod InTurn

@@ -7,7 +7,9 @@ use lib.Dec.{eqb}
 use lib.ListN.{length, drop, replicate}
 use Rattle.lsh.specs.WordSize.{WordSize, sizeOf, blockBytes}
 use Rattle.lsh.specs.Bytes.{wordAt, wordsOf}
+use Rattle.answers.specs.First.{first}
 use Rattle.record.specs.declared.Record.{Record}
+use Rattle.record.specs.Turn.{turnAnswer}
 use Rattle.checkpoints.specs.Slots.{indexBytes, rollBytes, slotCount, isRollLength, indexPlace, chainPlace}
 use Rattle.checkpoints.specs.Members.{repeats, allUpTo}
 
@@ -50,3 +52,7 @@ checkpoints w total = total / blockBytes (sizeOf w) / spacing
 -- a roll of the record: it has a link for each of the record's checkpoints. If not, the answer is 15
 unfoldable pub isRollOf : Record → List ℕ → Bool
 isRollOf r s = isRoll (sizeOf (r .w)) s && eqb (length (links (sizeOf (r .w)) s)) (checkpoints (r .w) (r .total))
+
+-- the tests that a call with a roll makes first: those of a call in turn, then 15 if the roll is none of the record, else 0
+unfoldable pub rollAnswer : Record → Bool → List ℕ → ℕ
+rollAnswer r out s = first (turnAnswer r out) (cond (not (isRollOf r s)) 15 0)

@@ -7,8 +7,9 @@ ghost use lib.ListN.{length, set, replicate};
 ghost use Rattle.lsh.specs.WordSize.{isWordSize, sizeOf};
 ghost use Rattle.lsh.specs.Bytes.{wordAt};
 ghost use Rattle.lsh.specs.Block.{Chain};
+ghost use Rattle.record.specs.Record.{sound};
 ghost use Rattle.checkpoints.specs.Slots.{indexBytes, mostSlots, slotBytes, slotCount, isRollLength, indexPlace};
-ghost use Rattle.checkpoints.specs.Roll.{nextIndex, links, isRoll, checkpoints, isRollOf};
+ghost use Rattle.checkpoints.specs.Roll.{nextIndex, links, isRoll, checkpoints, isRollOf, rollAnswer};
 ghost use Rattle.checkpoints.specs.FreeSlot.{freeSlot};
 ghost use Rattle.checkpoints.specs.Checkpoints.{withIndex, withSlot, leadTo, laid, unlinked};
 ghost use Rattle.roll.specs.Way.{marked, notARoll, wayOf};
@@ -54,6 +55,20 @@ pub fn is_roll_of(y: Way, r: Record) -> bool
         return false;
     }
     y.count as u64 == checkpoints(r.w, r.total)
+}
+
+// The answer of the tests that a call with a roll makes first, where out says whether it is out of turn.
+pub fn turn(r: Record, out: bool, y: Way) -> u32
+    ensures { λ a. ⌜ (a ≡ 0 → sound r ≡ true) × ((s : List ℕ) → y ≡ wayOf (sizeOf (r .w)) s → a ≡ rollAnswer r out s) ⌝ }
+{
+    let a = record::turn(r, out);
+    if a != 0 {
+        return a;
+    }
+    if !is_roll_of(y, r) {
+        return 15;
+    }
+    0
 }
 
 // How many checkpoints an order of this total has.
