@@ -1,6 +1,6 @@
 -- What the first tests of a call with a roll say of it, and what they answer in turn and out of turn.
 -- Assumes nothing.
-use mathlib.Core.Path.{_≡_, refl}
+use mathlib.Core.Path.{_≡_, refl, sym, ap, _∙_}
 use mathlib.Core.Bool.{Bool, true, false, not, cond}
 use mathlib.Core.List.{List, [], _∷_}
 use Prim.Native.Nat.{ℕ}
@@ -9,9 +9,10 @@ use Rattle.answers.specs.First.{first}
 use Rattle.answers.proofs.Tests.{test, passed}
 use Rattle.answers.proofs.First.{both-passed}
 use Rattle.record.specs.declared.Record.{Record}
-use Rattle.record.specs.Record.{sound}
-use Rattle.record.specs.Turn.{turnAnswer}
-use Rattle.record.proofs.InTurn.{turn-passed}
+use Rattle.record.specs.declared.Outcome.{Outcome}
+use Rattle.record.specs.Record.{sound, refused}
+use Rattle.record.specs.Turn.{turnAnswer, answered}
+use Rattle.record.proofs.InTurn.{answered-refused, answered-rest, turn-passed}
 use Rattle.checkpoints.specs.Roll.{isRollOf, rollAnswer}
 
 module _ (r : Record) (out : Bool) (s : List ℕ) where
@@ -30,3 +31,14 @@ module _ (r : Record) (out : Bool) (s : List ℕ) where
     pub roll-out-of-turn : out ≡ true → rollAnswer r out s ≡ 17
     unfolding rollAnswer turnAnswer first
     roll-out-of-turn wrong = rw (ok, wrong)
+
+-- a call by its first tests, where the code works the answer a out from the test b
+module _ (r : Record) {out : Bool} (s : List ℕ) (rest : Outcome) {a : ℕ} {b : Bool} (which : b ≡ out) (is : a ≡ rollAnswer r b s) where
+  same-turn : a ≡ rollAnswer r out s
+  same-turn = is ∙ ap (λ (t : Bool). rollAnswer r t s) which
+
+  pub roll-refused : (a ≡ 0 → ⊥) → refused a r ≡ answered (rollAnswer r out s) r rest
+  roll-refused = answered-refused (rollAnswer r out s) r rest same-turn
+
+  pub roll-rest : a ≡ 0 → rest ≡ answered (rollAnswer r out s) r rest
+  roll-rest none = answered-rest (rollAnswer r out s) r rest (sym same-turn ∙ none)

@@ -1,6 +1,6 @@
 // A roll of checkpoints in a lent buffer: its slots are walked from the head, a checkpoint is laid behind the last, and links are taken off.
 ghost use mathlib.Core.Path.{_≡_};
-ghost use mathlib.Core.Bool.{true};
+ghost use mathlib.Core.Bool.{true, false};
 ghost use mathlib.Core.List.{List};
 ghost use Prim.Native.Nat.{ℕ, _+_, _<_, _≤_};
 ghost use lib.ListN.{length, set, replicate};
@@ -59,7 +59,7 @@ pub fn is_roll_of(y: Way, r: Record) -> bool
 
 // The answer of the tests that a call with a roll makes first, where out says whether it is out of turn.
 pub fn turn(r: Record, out: bool, y: Way) -> u32
-    ensures { λ a. ⌜ (a ≡ 0 → sound r ≡ true) × ((s : List ℕ) → y ≡ wayOf (sizeOf (r .w)) s → a ≡ rollAnswer r out s) ⌝ }
+    ensures { λ a. ⌜ (a ≡ 0 → (sound r ≡ true) × (out ≡ false)) × ((s : List ℕ) → y ≡ wayOf (sizeOf (r .w)) s → a ≡ rollAnswer r out s) ⌝ }
 {
     let a = record::turn(r, out);
     if a != 0 {

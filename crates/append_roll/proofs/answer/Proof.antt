@@ -23,7 +23,7 @@ use Rattle.append_roll.proofs.answer.Statement.{statement}
 use Rattle.append_roll.proofs.answer.Tie as tie
 
 is-sound : (c : tie.Else1) → Sound (c .before .before .before .args .r)
-is-sound c = sounds (c .before .before .before .args .r) (c .before .turn .ensures .0 (c .if1 .left))
+is-sound c = sounds (c .before .before .before .args .r) (c .before .turn .ensures .0 (c .if1 .left) .0)
 
 within : (c : tie.Else2) → c .before .before .before .before .args .r .total + c .before .before .before .before .args .size ≤ limit
 unfolding limit

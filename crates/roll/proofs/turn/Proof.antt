@@ -19,12 +19,12 @@ turn-spec =
     (λ c.
     let e = c .before .before in
     let t = e .before .turn .ensures in (
-      λ none. turn-passed _ refl t (e .if1 .left) .0,
+      λ none. turn-passed _ refl t (e .if1 .left),
       λ s known. passed-first _ _ t (e .if1 .left) (sym (rw (sym (c .before .is-roll-of .ensures s known) ∙ not-true _ (c .if2 .taken)))),
     ))
     (λ c.
     let e = c .before .before in
     let t = e .before .turn .ensures in (
-      λ none. turn-passed _ refl t (e .if1 .left) .0,
+      λ none. turn-passed _ refl t (e .if1 .left),
       λ s known. passed-first _ _ t (e .if1 .left) (sym (rw (sym (c .before .is-roll-of .ensures s known) ∙ not-false _ (c .if2 .left)))),
     )))
