@@ -1,14 +1,15 @@
 -- What an answer says of the calls with a key.
 -- Assumes nothing.
 use mathlib.Core.Path.{_≡_, refl, sym, ap, _∙_}
-use mathlib.Core.Bool.{Bool, true, false, not, cond, _||_, false≢true}
+use mathlib.Core.Bool.{Bool, true, false, not, _||_}
 use mathlib.Core.List.{[], _∷_}
 use Prim.Native.Nat.{ℕ, _+_, _-_, _%_, _≤_}
 use native.Mathlib.Omega.{arith}
-use borrow.Author.Tests.{eqb-true, eq-eqb, ne-eqb, lt-ltb, le-ltb, ltb-true, ltb-false, not-false}
-use lib.Dec.{eqb, ltb}
+use borrow.Author.Tests.{eqb-true, lt-ltb, le-ltb, ltb-true, ltb-false, not-false}
+use lib.Dec.{ltb}
 use Rattle.lsh.specs.WordSize.{isWordSize, sizeOf, blockBytes}
 use Rattle.answers.proofs.Tests.{test, passed}
+use Rattle.answers.proofs.First.{both-passed}
 use Rattle.runs.specs.Limits.{isDigestLength, limit}
 use Rattle.lsh.proofs.Tests.{or-false}
 use Rattle.runs.proofs.Limits.{block-most}
@@ -67,25 +68,11 @@ unfolding roomAnswer
 roomy n size is = ltb-false size (tagBytes n) (passed (λ (k : ℕ). k) (test (ltb size (tagBytes n)) 12 ∷ []) 0 refl is .0 0)
 
 -- the tag of one message
-module _ (w n keyLength len size : ℕ) where
-  -- a first answer that refuses stands, and else the second does
-  pub refused-first : {a : ℕ} → (a ≡ 0 → ⊥) → a ≡ keyAnswer w n keyLength len → a ≡ tagAnswer w n keyLength len size
-  unfolding tagAnswer
-  refused-first other is = is ∙ sym (rw (ne-eqb (keyAnswer w n keyLength len) 0 (λ e. other (is ∙ e))))
-
-  pub passed-first : {a b : ℕ} → a ≡ 0 → a ≡ keyAnswer w n keyLength len → b ≡ roomAnswer n size → b ≡ tagAnswer w n keyLength len size
-  unfolding tagAnswer
-  passed-first none is room = room ∙ sym (rw (eq-eqb (keyAnswer w n keyLength len) 0 (sym is ∙ none)))
-
-  pub tag-accepted : tagAnswer w n keyLength len size ≡ 0 → Keyed w n keyLength len × (tagBytes n ≤ size)
-  unfolding tagAnswer
-  tag-accepted is =
-      let both = tests (keyAnswer w n keyLength len) (eqb (keyAnswer w n keyLength len) 0) refl is in
-      (keyed w n keyLength len (both .0), roomy n size (both .1))
-    where
-      tests : (a : ℕ) (b : Bool) → eqb a 0 ≡ b → cond b (roomAnswer n size) a ≡ 0 → (a ≡ 0) × (roomAnswer n size ≡ 0)
-      tests a true e is = (eqb-true a 0 e, is)
-      tests a false e is = absurd (false≢true (sym e ∙ eq-eqb a 0 is))
+pub tag-accepted : (w n keyLength len size : ℕ) → tagAnswer w n keyLength len size ≡ 0 → Keyed w n keyLength len × (tagBytes n ≤ size)
+unfolding tagAnswer
+tag-accepted w n keyLength len size is =
+    let both = both-passed (keyAnswer w n keyLength len) (roomAnswer n size) is in
+    (keyed w n keyLength len (both .0), roomy n size (both .1))
 
 -- the finish
 pub finish-accepted : (r : Record) (keyLength size : ℕ) → finishAnswer r keyLength size ≡ 0 → (sound r ≡ true) × (r .n % 8 ≡ 0) × (tagBytes (r .n) ≤ size)

@@ -12,6 +12,7 @@ use Rattle.lsh.specs.Bits.{bitsOf, bytesOfBits}
 use Rattle.lsh.specs.Hash.{lsh}
 use Rattle.lsh.specs.ByteString.{Bytes}
 use Rattle.lsh.proofs.Bytes.{bytes-append}
+use Rattle.answers.specs.First.{first}
 use Rattle.answers.specs.Output.{written}
 use Rattle.runs.specs.Limits.{limit}
 use Rattle.record.specs.declared.Record.{Record}
@@ -47,7 +48,7 @@ module _ (w n : ℕ) (key m : List ℕ) (ok : Keyed w n (length key) (length m))
       (omega (arith, length-append (innerKey w n key) m, inner-length w n (ok .wordSize) (ok .digestLength) (ok .bytewise) key, ok .within))
 
   pub same-answer : (size : ℕ) → finishAnswer R (length key) size ≡ tagAnswer w n (length key) (length m) size
-  unfolding finishAnswer tagAnswer isWholeBytes recordOf
+  unfolding finishAnswer tagAnswer isWholeBytes recordOf first
   same-answer size = rw (record-taken, eq-eqb (n % 8) 0 (ok .bytewise), le-ltb limit _ (ok .short), no-refusal)
 
   pub same-output : Bytes m → (output : List ℕ) → finishOutput R key output ≡ tagOutput w n key m output

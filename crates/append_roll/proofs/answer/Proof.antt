@@ -1,6 +1,6 @@
 -- `append_roll::answer` meets its contract, test by test. Assumes nothing.
 use mathlib.Core.Path.{_≡_, sym, ap, ap₂, _∙_}
-use mathlib.Core.Bool.{Bool, true}
+use mathlib.Core.Bool.{Bool}
 use mathlib.Core.List.{List}
 use Prim.Native.Nat.{ℕ, _+_, _≤_, _<_}
 use native.Mathlib.Omega.{arith}
@@ -12,7 +12,7 @@ use Rattle.answers.proofs.First.{refused-first, passed-first}
 use Rattle.runs.specs.Limits.{limit}
 use Rattle.record.specs.Record.{isBegun}
 use Rattle.record.proofs.Sound.{Sound, sounds}
-use Rattle.checkpoints.specs.Roll.{checkpoints, isRollOf, rollAnswer}
+use Rattle.checkpoints.specs.Roll.{checkpoints, rollAnswer}
 use Rattle.roll.specs.Way.{wayOf}
 use Rattle.checkpoints.proofs.Form.{roll-of}
 use Rattle.checkpoints.proofs.InTurn.{roll-passed}

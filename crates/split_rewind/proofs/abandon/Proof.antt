@@ -2,8 +2,6 @@
 use mathlib.Core.Path.{_≡_, sym, ap, _∙_}
 use mathlib.Core.Bool.{true, false, not}
 use borrow.Author.Needs.{needs}
-use borrow.Author.Tests.{not-false}
-use Rattle.record.specs.declared.Split.{Split}
 use Rattle.record.specs.Record.{sound, isBegun, stepped}
 use Rattle.record.proofs.InTurn.{turn-refused, turn-passed, in-turn}
 use Rattle.split_rewind.specs.Abandon.{abandonCall}
