@@ -1,15 +1,12 @@
-//! Single calls with a roll, on any record with no split rewind begun and with any buffer, against a model written here over lsh_ref: through
-//! the archive, and those with small rolls once more through the program replay. Each Rewind is also made in steps.
-
-mod record;
+//! Single calls with a roll, on any record with no split rewind begun and with any buffer, against the model: through the archive, and those
+//! with small rolls once more through the program replay. Each Rewind is also made in steps.
 
 use compare::roll::{self, CHECKPOINT_BLOCKS, MOST_SLOTS};
-use compare::{at_both_word_sizes, hand_back_all, hex, Outcome, Random, Record, Script, ACCEPTED, BAD_ROLL, FULL_ROLL};
+use compare::{
+    at_both_word_sizes, hand_back_all, hex, record_line, set_line, Outcome, Random, Record, Script, ACCEPTED, BAD_ROLL,
+    FULL_ROLL, MOST_BYTES,
+};
 use lsh_ref::Word;
-use record::{record_after, record_line, record_of, set_line};
-
-/// The most bytes of an order.
-const LIMIT: u64 = 1 << 40;
 
 /// Zeros before and after a roll, so that a slot beyond its slots would end the way.
 const AROUND: usize = 600;
@@ -20,85 +17,6 @@ const LONG_ROLL: usize = 1000;
 /// Bytes from one checkpoint to the next.
 fn interval<W: Word>() -> usize {
     CHECKPOINT_BLOCKS * W::BLOCK_BYTES
-}
-
-// ---- what has to be answered ----
-
-fn is_sound(r: &Record) -> bool {
-    let in_range = (r.w == 32 || r.w == 64) && r.n > 0 && r.n <= 8 * r.w && r.total <= LIMIT;
-    in_range
-        && r.chain.iter().all(|&word| r.w == 64 || word < 1 << 32)
-        && r.held[(r.total % (4 * r.w)) as usize..].iter().all(|&byte| byte == 0)
-}
-
-fn chain_of<W: Word>(r: &Record) -> [W; 16] {
-    r.chain.map(W::from_u64)
-}
-
-/// The outcome of an Append, and the chains of the checkpoints due.
-fn right_append<W: Word>(r: &Record, piece: &[u8], roll: &[u8]) -> (Outcome, Vec<Vec<u8>>) {
-    if !is_sound(r) {
-        return (Outcome::refused(3, r), Vec::new());
-    }
-    if !roll::is_roll_of(r.w, r.total, roll) {
-        return (Outcome::refused(15, r), Vec::new());
-    }
-    if r.total + piece.len() as u64 > LIMIT {
-        return (Outcome::refused(5, r), Vec::new());
-    }
-    let held = (r.total % W::BLOCK_BYTES as u64) as usize;
-    let first = (r.total / W::BLOCK_BYTES as u64) as usize;
-    let bytes = [&r.held[..held], piece].concat();
-    let mut chain = chain_of::<W>(r);
-    let mut due = Vec::new();
-    for (number, block) in (first + 1..).zip(bytes.chunks_exact(W::BLOCK_BYTES)) {
-        chain = lsh_ref::forward(&chain, block);
-        if number.is_multiple_of(CHECKPOINT_BLOCKS) {
-            let mut stored = vec![0; W::CHAIN_BYTES];
-            lsh_ref::store_chain(&chain, &mut stored);
-            due.push(stored);
-        }
-    }
-    if roll::links(r.w, roll).unwrap().len() + due.len() > roll::slot_count(r.w, roll.len()).unwrap() {
-        return (Outcome::refused(16, r), Vec::new());
-    }
-    let done = r.total as usize - held;
-    let next = record_after(r.n, done, chain_of::<W>(r), &bytes);
-    (Outcome { number: ACCEPTED, count: (bytes.len() / W::BLOCK_BYTES) as u64, next }, due)
-}
-
-fn right_rewind<W: Word>(r: &Record, keep: u64, h: &[u8], roll: &[u8]) -> Outcome {
-    if !is_sound(r) {
-        return Outcome::refused(3, r);
-    }
-    if !roll::is_roll_of(r.w, r.total, roll) {
-        return Outcome::refused(15, r);
-    }
-    let total = r.total as usize;
-    if h.len() > total || !(total - h.len()).is_multiple_of(W::BLOCK_BYTES) {
-        return Outcome::refused(6, r);
-    }
-    if keep > h.len() as u64 || keep >= W::BLOCK_BYTES as u64 {
-        return Outcome::refused(7, r);
-    }
-    let blocks = h.chunks_exact(W::BLOCK_BYTES);
-    if *blocks.remainder() != r.held[..blocks.remainder().len()] {
-        return Outcome::refused(8, r);
-    }
-    let count = blocks.len() as u64;
-    let reached = blocks.rev().fold(chain_of::<W>(r), |chain, block| lsh_ref::backward(&chain, block));
-    let done = total - h.len();
-    if done == 0 && reached != lsh_ref::opening_chain::<W>(r.n) {
-        return Outcome::refused(9, r);
-    }
-    Outcome { number: ACCEPTED, count, next: record_after(r.n, done, reached, &h[..keep as usize]) }
-}
-
-/// Whether a begin with the last of these bytes and hand-backs of the others are taken.
-fn goes_in_steps<W: Word>(r: &Record, h: &[u8]) -> bool {
-    let rest = h.chunks_exact(W::BLOCK_BYTES).remainder();
-    let held = (r.total % W::BLOCK_BYTES as u64) as usize;
-    is_sound(r) && h.len() as u64 <= r.total && *rest == r.held[..held]
 }
 
 // ---- calls ----
@@ -130,6 +48,11 @@ impl Lent {
     }
 }
 
+/// Whether a begin with the last of these bytes and hand-backs of the others are taken.
+fn goes_in_steps(r: &Record, h: &[u8]) -> bool {
+    r.is_sound() && h.len() as u64 <= r.total && h.chunks_exact(r.block() as usize).remainder() == r.held_bytes()
+}
+
 impl Calls {
     fn new<W: Word>(seed: u64) -> Calls {
         Calls { random: Random::new(seed * W::BITS as u64), script: Script::default() }
@@ -137,26 +60,27 @@ impl Calls {
 
     /// Makes the call and compares all of it; gives the number of its answer.
     fn append<W: Word>(&mut self, r: &Record, piece: &[u8], roll: &[u8]) -> u32 {
-        let (right, due) = right_append::<W>(r, piece, roll);
+        let (right, due) = roll::append_roll(r, piece, roll);
         let mut lent = Lent::new(roll);
         let outcome = compare::append_roll(*r, piece, lent.roll());
         assert_eq!(outcome, right);
-        let after = if right.number == ACCEPTED { roll::laid(r.w, roll, lent.roll(), &due) } else { roll.to_vec() };
+        let after = match right.number {
+            ACCEPTED => roll::laid(r.w, roll, &roll::taken(r.w, roll, lent.roll()), &due),
+            _ => roll.to_vec(),
+        };
         lent.assert_is(&after, "an Append");
         self.script(r, roll, format!("appendroll {}", hex(piece)), "appendroll", &right, &after);
         right.number
     }
 
     fn rewind<W: Word>(&mut self, r: &Record, keep: u64, h: &[u8], roll: &[u8]) -> u32 {
-        let right = right_rewind::<W>(r, keep, h, roll);
+        let (right, after) = roll::rewind_roll(r, keep, h, roll);
         let mut lent = Lent::new(roll);
         let outcome = compare::rewind_roll(*r, keep, h, lent.roll());
         assert_eq!(outcome, right);
-        let remaining = right.next.total as usize / interval::<W>();
-        let after = if right.number == ACCEPTED { roll::unlinked(r.w, roll, remaining) } else { roll.to_vec() };
         lent.assert_is(&after, "a Rewind");
         self.script(r, roll, format!("rewindroll {keep} {}", hex(h)), "rewindroll", &right, &after);
-        if goes_in_steps::<W>(r, h) {
+        if goes_in_steps(r, h) {
             self.rewind_in_steps(r, keep, h, roll, right, &after);
         }
         right.number
@@ -209,7 +133,7 @@ impl Calls {
     }
 
     fn roll<W: Word>(&mut self, slots: usize, links: usize) -> Vec<u8> {
-        roll::random_roll(W::BITS as u64, slots, links, &mut self.random)
+        self.random.roll(W::BITS as u64, slots, links)
     }
 }
 
@@ -221,7 +145,7 @@ at_both_word_sizes! { lengths cycles indexes_beyond numbers_of_links full_rolls 
 fn lengths<W: Word>() {
     let w = W::BITS as u64;
     let mut calls = Calls::new::<W>(17);
-    let opened = record_of::<W>(8 * w, &[]);
+    let opened = Record::of(w, 8 * w, &[]);
     let long = roll::roll_bytes(w, MOST_SLOTS - 1)..=roll::roll_bytes(w, MOST_SLOTS + 1) + 1;
     // Those that are right at the other word size.
     let other = (1..=MOST_SLOTS).map(|slots| roll::roll_bytes(96 - w, slots));
@@ -301,7 +225,7 @@ fn numbers_of_links<W: Word>() {
             ] {
                 let r = calls.record::<W>(total);
                 // Of an order without a block, only the opening chain is taken back.
-                let r = if total < W::BLOCK_BYTES { record_of::<W>(r.n, &r.held[..total]) } else { r };
+                let r = if total < W::BLOCK_BYTES { Record::of(r.w, r.n, &r.held[..total]) } else { r };
                 assert_eq!(calls.both::<W>(&r, &roll), number, "{slots} slots, {links} links, {total} bytes");
             }
             for checkpoints in [0, links.saturating_sub(1), links + 1, slots, slots + 1, links + 256, links + 65536] {
@@ -376,7 +300,7 @@ fn cuts<W: Word>() {
     let bytes = calls.random.bytes(4 * interval::<W>() + 44);
     for slots in 4..=5 {
         for total in [4 * interval::<W>(), bytes.len()] {
-            let r = record_of::<W>(n, &bytes[..total]);
+            let r = Record::of(W::BITS as u64, n, &bytes[..total]);
             let roll = calls.roll::<W>(slots, 4);
             for checkpoint in 0..=4 {
                 let place = checkpoint * interval::<W>();
@@ -444,7 +368,7 @@ fn refusals<W: Word>() {
         let mut unsound = vec![sound; 5];
         unsound[0].w = 33;
         unsound[1].n = 0;
-        unsound[2].total += LIMIT;
+        unsound[2].total += MOST_BYTES;
         unsound[3].held[1] = 1;
         unsound[4].n = 8 * w + 1;
         let full = links.max(1);
