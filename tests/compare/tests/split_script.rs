@@ -85,57 +85,115 @@ abandon => 17 0
     );
 }
 
+/// An order of two blocks and more at each word size.
+const ORDERS: [(u64, u64, u64); 2] = [(32, 256, 300), (64, 512, 600)];
+
+/// 6 for no bytes, one less than a block, one more, two blocks, a block of the other word size, and the held bytes. A block cannot be kept, and
+/// what is kept leaves the record and the count of one Rewind; 10 is the figure of document 01.
 #[test]
-fn blocks_handed_back() {
-    compare_text(
-        "\
-open 32 256
-append [0..300] => 0 2
-# 6: no bytes, one less, one more, two blocks, the held bytes
-begin [256..300] => 0 0
+fn one_block() {
+    for (w, n, total) in ORDERS {
+        let (block, two, other) = (4 * w, 8 * w, 4 * (96 - w));
+        let (most, less) = (block - 1, two - 1);
+        let kept = block + 10;
+        compare_text(&format!(
+            "\
+open {w} {n}
+append [0..{total}] => 0 2
+begin [{two}..{total}] => 0 0
 handback - => 6 0
-handback [128..255] => 6 0
-handback [128..256]00 => 6 0
-handback [0..256] => 6 0
-handback [256..300] => 6 0
+handback [{block}..{less}] => 6 0
+handback [{block}..{two}]00 => 6 0
+handback [0..{two}] => 6 0
+handback [0..{other}] => 6 0
+handback [{two}..{total}] => 6 0
 record
-handback [128..256] => 0 0
+handback [{block}..{two}] => 0 0
 record
 close 00 0 76
-# the figures of document 01: 128 cannot be kept, 10 can, and it is the record and the count of one Rewind
-end 128 => 7 0
+append 00 => 17 0
+end {block} => 7 0
 end 4294967296 => 7 0
 end 10 => 0 1
 record
-append [138..300] => 0 1
-rewind 10 [128..300] => 0 1
+append [{kept}..{total}] => 0 1
+rewind 10 [{block}..{total}] => 0 1
 record
-append [138..300] => 0 1
-# abandoned after a block
-begin [256..300] => 0 0
-handback [128..256] => 0 0
+append [{kept}..{total}] => 0 1
+# all but a byte of the block are kept
+begin [{two}..{total}] => 0 0
+handback [{block}..{two}] => 0 0
+end {most} => 0 1
+record
+append [{less}..{total}] => 0 1
+rewind {most} [{block}..{total}] => 0 1
+record
+append [{less}..{total}] => 0 1
+# abandoned
+begin [{two}..{total}] => 0 0
+handback [{block}..{two}] => 0 0
 abandon => 0 0
 record
-# all blocks, and none is left (6). 127 are kept, then 0: the record is a new one, and that of one Rewind
-begin [256..300] => 0 0
-handback [128..256] => 0 0
-handback [0..128] => 0 0
-handback [0..128] => 6 0
+"
+        ));
+    }
+}
+
+/// All blocks are handed back, and none is left (6). All but one byte of a block are kept, then none: the record is a new one, and that of one
+/// Rewind.
+#[test]
+fn all_blocks() {
+    for (w, n, total) in ORDERS {
+        let (block, two) = (4 * w, 8 * w);
+        let most = block - 1;
+        compare_text(&format!(
+            "\
+open {w} {n}
+append [0..{total}] => 0 2
+begin [{two}..{total}] => 0 0
+handback [{block}..{two}] => 0 0
+handback [0..{block}] => 0 0
+handback [0..{block}] => 6 0
 record
-end 128 => 7 0
-end 127 => 0 2
+end {block} => 7 0
+end {most} => 0 2
 record
-append [127..300] => 0 2
-begin [256..300] => 0 0
-handback [128..256] => 0 0
-handback [0..128] => 0 0
+append [{most}..{total}] => 0 2
+begin [{two}..{total}] => 0 0
+handback [{block}..{two}] => 0 0
+handback [0..{block}] => 0 0
 end 0 => 0 2
 record
-append [0..300] => 0 2
-rewind 0 [0..300] => 0 2
+append [0..{total}] => 0 2
+rewind 0 [0..{total}] => 0 2
 record
-",
-    );
+"
+        ));
+    }
+}
+
+/// 9: another byte in a block shows where all was handed back, after 7. The steps so far stay, and the order is as it was.
+#[test]
+fn other_byte() {
+    for (w, n, total) in ORDERS {
+        let (block, two) = (4 * w, 8 * w);
+        compare_text(&format!(
+            "\
+open {w} {n}
+append [0..{total}] => 0 2
+begin [{two}..{total}] => 0 0
+handback [{block}..{two}] => 0 0
+handback [0..77]27[78..{block}] => 0 0
+end {block} => 7 0
+end 0 => 9 0
+record
+close 00 0 76
+abandon => 0 0
+record
+rewind 0 [0..77]27[78..{total}] => 9 0
+"
+        ));
+    }
 }
 
 #[test]
@@ -144,17 +202,6 @@ fn other_blocks() {
         "\
 open 32 256
 append [0..300] => 0 2
-# 9: another byte in a block shows where all was handed back, after 7. The steps so far stay, and the order is as it was
-begin [256..300] => 0 0
-handback [128..256] => 0 0
-handback [0..77]27[78..128] => 0 0
-end 128 => 7 0
-end 0 => 9 0
-record
-close 00 0 76
-abandon => 0 0
-record
-rewind 0 [0..77]27[78..300] => 9 0
 # the blocks in the wrong order
 begin [256..300] => 0 0
 handback [0..128] => 0 0
@@ -269,38 +316,18 @@ end 0 => 0 0
 /// 600 bytes are two blocks and 88 bytes.
 #[test]
 fn word_size_64() {
-    let set = set_line(&sample_record(64, 300, 16383));
-    compare_text(&format!(
+    compare_text(
         "\
 open 64 512
 append [0..600] => 0 2
 begin [556..600] => 6 0
 begin [512..599]b3 => 8 0
 begin [512..600] => 0 0
-handback [256..384] => 6 0
-handback [256..512] => 0 0
-record
-close 00 0 76
-append 00 => 17 0
-end 256 => 7 0
-end 255 => 0 1
-record
-append [511..600] => 0 1
-rewind 255 [256..600] => 0 1
-record
-append [511..600] => 0 1
-begin [512..600] => 0 0
-handback [256..512] => 0 0
-handback [0..255]1c => 0 0
-end 0 => 9 0
-abandon => 0 0
-begin [512..600] => 0 0
-handback [256..512] => 0 0
-handback [0..256] => 0 0
-handback [0..256] => 6 0
-end 0 => 0 2
-record
-# and with a roll
+",
+    );
+    let set = set_line(&sample_record(64, 300, 16383));
+    compare_text(&format!(
+        "\
 {set}
 roll 132
 appendroll [16383..16384] => 0 1
