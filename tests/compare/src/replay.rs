@@ -9,6 +9,9 @@ use std::path::PathBuf;
 use std::process::{Command, Stdio};
 use std::thread;
 
+/// So much of a line is shown if its answer is wrong.
+const FRONT: usize = 100;
+
 /// Runs the program on a script and returns the lines that it prints.
 fn replay(script: String) -> Vec<String> {
     let mut program = Command::new(program("replay"))
@@ -25,12 +28,12 @@ fn replay(script: String) -> Vec<String> {
     String::from_utf8(output.stdout).unwrap().lines().map(str::to_string).collect()
 }
 
-/// A script as it is made, the model that answers it, and the lines that the program has to print for it.
+/// A script as it is made, the model that answers it, and the answers that the program has to print, each with the front of its line.
 #[derive(Default)]
 pub struct Script {
     lines: String,
-    answers: Vec<String>,
     model: Program,
+    answers: Vec<(String, String)>,
 }
 
 impl Script {
@@ -41,45 +44,39 @@ impl Script {
             let (line, stated) = line.split_once(" => ").map_or((line, None), |(line, stated)| (line, Some(stated)));
             let answer = self.line(line);
             if let Some(stated) = stated {
-                let said = answer.as_deref().and_then(|answer| answer.split_once(' '));
+                let said = answer.and_then(|answer| answer.split_once(' '));
                 assert_eq!(said.map(|(_, said)| said), Some(stated), "what the model answers to {line}");
             }
-            self.answers.extend(answer);
         }
     }
 
-    /// Makes a record the program's.
-    pub fn set(&mut self, r: &Record) {
-        self.call(set_line(r), "set");
-    }
-
     /// A line with its answer, to which the model is held.
-    pub fn call(&mut self, line: impl AsRef<str>, answer: impl Into<String>) {
-        let answer = answer.into();
+    pub fn call(&mut self, line: impl AsRef<str>, answer: impl AsRef<str>) {
         let line = line.as_ref();
-        assert_eq!(self.line(line).as_ref(), Some(&answer), "what the model answers to {line}");
-        self.answers.push(answer);
+        assert_eq!(self.line(line), Some(answer.as_ref()), "what the model answers to {line}");
     }
 
     /// A line that is no call.
-    pub fn no_call(&mut self, line: impl AsRef<str>) {
-        let answer = format!("line {}: not a call", self.answers.len() + 1);
-        self.call(line, answer);
+    pub fn no_call(&mut self, line: &str) {
+        let answer = self.line(line).unwrap_or_default();
+        assert!(answer.ends_with(": not a call"), "the model answers {answer} to {line}");
     }
 
     /// What the model answers to the next line.
-    fn line(&mut self, line: &str) -> Option<String> {
+    fn line(&mut self, line: &str) -> Option<&str> {
         self.lines += line;
         self.lines.push('\n');
-        self.model.line(line.as_bytes())
+        let answer = self.model.line(line.as_bytes())?;
+        self.answers.push((line.chars().take(FRONT).collect(), answer));
+        self.answers.last().map(|(_, answer)| answer.as_str())
     }
 
     /// Runs the program on the script, and compares what it prints.
     pub fn compare(self, what: &str) {
         let printed = replay(self.lines);
         assert_eq!(printed.len(), self.answers.len(), "lines printed, {what}");
-        for (place, (line, answer)) in printed.iter().zip(&self.answers).enumerate() {
-            assert_eq!(line, answer, "line {place}, {what}");
+        for (line, (front, answer)) in printed.iter().zip(&self.answers) {
+            assert_eq!(line, answer, "what replay prints for {front}.., {what}");
         }
     }
 }

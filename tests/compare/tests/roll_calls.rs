@@ -59,7 +59,7 @@ impl Calls {
     }
 
     /// Makes the call and compares all of it; gives the number of its answer.
-    fn append<W: Word>(&mut self, r: &Record, piece: &[u8], roll: &[u8]) -> u32 {
+    fn append(&mut self, r: &Record, piece: &[u8], roll: &[u8]) -> u32 {
         let (right, due) = roll::append_roll(r, piece, roll);
         let mut lent = Lent::new(roll);
         let outcome = compare::append_roll(*r, piece, lent.roll());
@@ -73,7 +73,7 @@ impl Calls {
         right.number
     }
 
-    fn rewind<W: Word>(&mut self, r: &Record, keep: u64, h: &[u8], roll: &[u8]) -> u32 {
+    fn rewind(&mut self, r: &Record, keep: u64, h: &[u8], roll: &[u8]) -> u32 {
         let (right, after) = roll::rewind_roll(r, keep, h, roll);
         let mut lent = Lent::new(roll);
         let outcome = compare::rewind_roll(*r, keep, h, lent.roll());
@@ -97,10 +97,9 @@ impl Calls {
     }
 
     /// Both calls with nothing to do for them but to test the roll: an empty piece, and the held bytes handed back and kept.
-    fn both<W: Word>(&mut self, r: &Record, roll: &[u8]) -> u32 {
-        let held = r.total % W::BLOCK_BYTES as u64;
-        let number = self.append::<W>(r, &[], roll);
-        assert_eq!(self.rewind::<W>(r, held, &r.held[..held as usize], roll), number);
+    fn both(&mut self, r: &Record, roll: &[u8]) -> u32 {
+        let number = self.append(r, &[], roll);
+        assert_eq!(self.rewind(r, r.held_bytes().len() as u64, r.held_bytes(), roll), number);
         number
     }
 
@@ -151,12 +150,12 @@ fn lengths<W: Word>() {
     let other = (1..=MOST_SLOTS).map(|slots| roll::roll_bytes(96 - w, slots));
     for length in (0..=roll::roll_bytes(w, 4) + 1).chain(long).chain(other) {
         let number = if roll::slot_count(w, length).is_some() { ACCEPTED } else { BAD_ROLL };
-        assert_eq!(calls.both::<W>(&opened, &vec![0; length]), number, "{length} zeros");
+        assert_eq!(calls.both(&opened, &vec![0; length]), number, "{length} zeros");
         // No slot is linked, and nothing else is known of the bytes.
         let mut stale = calls.random.bytes(length);
         let head = length.min(2);
         stale[..head].fill(0);
-        assert_eq!(calls.both::<W>(&opened, &stale), number, "{length} bytes");
+        assert_eq!(calls.both(&opened, &stale), number, "{length} bytes");
     }
     calls.end("lengths of rolls");
 }
@@ -174,7 +173,7 @@ fn cycles<W: Word>() {
                 roll::set_index(w, &mut roll, way[links - 1], back);
                 for checkpoints in [links, links + 1, slots] {
                     let r = calls.record_of_checkpoints::<W>(checkpoints);
-                    assert_eq!(calls.both::<W>(&r, &roll), BAD_ROLL);
+                    assert_eq!(calls.both(&r, &roll), BAD_ROLL);
                 }
             }
         }
@@ -198,7 +197,7 @@ fn indexes_beyond<W: Word>() {
                 roll::set_index(w, &mut roll, from, index);
                 for checkpoints in [place, place + 1, links] {
                     let r = calls.record_of_checkpoints::<W>(checkpoints);
-                    assert_eq!(calls.both::<W>(&r, &roll), BAD_ROLL);
+                    assert_eq!(calls.both(&r, &roll), BAD_ROLL);
                 }
             }
         }
@@ -226,13 +225,13 @@ fn numbers_of_links<W: Word>() {
                 let r = calls.record::<W>(total);
                 // Of an order without a block, only the opening chain is taken back.
                 let r = if total < W::BLOCK_BYTES { Record::of(r.w, r.n, &r.held[..total]) } else { r };
-                assert_eq!(calls.both::<W>(&r, &roll), number, "{slots} slots, {links} links, {total} bytes");
+                assert_eq!(calls.both(&r, &roll), number, "{slots} slots, {links} links, {total} bytes");
             }
             for checkpoints in [0, links.saturating_sub(1), links + 1, slots, slots + 1, links + 256, links + 65536] {
                 if checkpoints != links {
                     let r = calls.record_of_checkpoints::<W>(checkpoints);
                     assert_eq!(
-                        calls.both::<W>(&r, &roll),
+                        calls.both(&r, &roll),
                         BAD_ROLL,
                         "{slots} slots, {links} links, {checkpoints} checkpoints"
                     );
@@ -257,14 +256,10 @@ fn full_rolls<W: Word>() {
                 [(0, 0), (any, 0), (most - 1, 0), (most, 0), (most + 1, FULL_ROLL), (most + 2, FULL_ROLL)]
             {
                 let piece = calls.random.bytes(length);
-                assert_eq!(
-                    calls.append::<W>(&r, &piece, &roll),
-                    number,
-                    "{slots} slots, {links} links, {length} bytes"
-                );
+                assert_eq!(calls.append(&r, &piece, &roll), number, "{slots} slots, {links} links, {length} bytes");
             }
             let piece = calls.random.bytes(most + 1 + interval::<W>());
-            assert_eq!(calls.append::<W>(&r, &piece, &roll), FULL_ROLL);
+            assert_eq!(calls.append(&r, &piece, &roll), FULL_ROLL);
         }
     }
     calls.end("full rolls");
@@ -282,13 +277,13 @@ fn rolls_of_any_kind<W: Word>() {
 
         let size = calls.below(3 * interval::<W>());
         let piece = calls.random.bytes(size);
-        calls.append::<W>(&r, &piece, &roll);
+        calls.append(&r, &piece, &roll);
 
         let held = r.total as usize % W::BLOCK_BYTES;
         let blocks = calls.below((r.total as usize / W::BLOCK_BYTES).min(3 * CHECKPOINT_BLOCKS) + 1);
         let h = [calls.random.bytes(blocks * W::BLOCK_BYTES), r.held[..held].to_vec()].concat();
         let keep = calls.below(h.len().min(W::BLOCK_BYTES - 1) + 1);
-        calls.rewind::<W>(&r, keep as u64, &h, &roll);
+        calls.rewind(&r, keep as u64, &h, &roll);
     }
     calls.end("rolls of any kind");
 }
@@ -313,7 +308,7 @@ fn cuts<W: Word>() {
                 ] {
                     if cut <= total {
                         let keep = cut % W::BLOCK_BYTES;
-                        assert_eq!(calls.rewind::<W>(&r, keep as u64, &bytes[cut - keep..total], &roll), ACCEPTED);
+                        assert_eq!(calls.rewind(&r, keep as u64, &bytes[cut - keep..total], &roll), ACCEPTED);
                     }
                 }
             }
@@ -347,11 +342,11 @@ fn damaged_rolls<W: Word>() {
         let checkpoints = [found, found, links][calls.below(3)];
         let past = W::BLOCK_BYTES + calls.below(interval::<W>() - W::BLOCK_BYTES);
         let r = calls.record::<W>(checkpoints * interval::<W>() + past);
-        numbers.push(calls.both::<W>(&r, &roll));
+        numbers.push(calls.both(&r, &roll));
 
         let size = [calls.below(W::BLOCK_BYTES), interval::<W>()][calls.below(2)];
         let piece = calls.random.bytes(size);
-        numbers.push(calls.append::<W>(&r, &piece, &roll));
+        numbers.push(calls.append(&r, &piece, &roll));
     }
     for number in [ACCEPTED, BAD_ROLL] {
         assert!(numbers.iter().filter(|&&given| given == number).count() > 500, "{number} is given too rarely");
@@ -384,28 +379,28 @@ fn refusals<W: Word>() {
         let keep = W::BLOCK_BYTES as u64;
         for roll in [&right, &other_number, &beyond, &short] {
             for r in &unsound {
-                assert_eq!(calls.append::<W>(r, &piece, roll), 3);
-                assert_eq!(calls.rewind::<W>(r, keep, &longer, roll), 3);
+                assert_eq!(calls.append(r, &piece, roll), 3);
+                assert_eq!(calls.rewind(r, keep, &longer, roll), 3);
             }
         }
         for roll in [&other_number, &beyond, &short] {
-            assert_eq!(calls.append::<W>(&sound, &piece, roll), BAD_ROLL);
-            assert_eq!(calls.rewind::<W>(&sound, keep, &longer, roll), BAD_ROLL);
-            assert_eq!(calls.rewind::<W>(&sound, keep, &from_block, roll), BAD_ROLL);
-            assert_eq!(calls.rewind::<W>(&sound, 0, &from_block, roll), BAD_ROLL);
+            assert_eq!(calls.append(&sound, &piece, roll), BAD_ROLL);
+            assert_eq!(calls.rewind(&sound, keep, &longer, roll), BAD_ROLL);
+            assert_eq!(calls.rewind(&sound, keep, &from_block, roll), BAD_ROLL);
+            assert_eq!(calls.rewind(&sound, 0, &from_block, roll), BAD_ROLL);
         }
-        assert_eq!(calls.append::<W>(&sound, &piece, &right), FULL_ROLL);
-        assert_eq!(calls.rewind::<W>(&sound, keep, &longer, &right), 6);
-        assert_eq!(calls.rewind::<W>(&sound, keep, &from_block[1..], &right), 6);
-        assert_eq!(calls.rewind::<W>(&sound, keep, &from_block, &right), 7);
+        assert_eq!(calls.append(&sound, &piece, &right), FULL_ROLL);
+        assert_eq!(calls.rewind(&sound, keep, &longer, &right), 6);
+        assert_eq!(calls.rewind(&sound, keep, &from_block[1..], &right), 6);
+        assert_eq!(calls.rewind(&sound, keep, &from_block, &right), 7);
         let mut h = from_block.clone();
         h[W::BLOCK_BYTES] = sound.held[0] ^ 0x80;
-        assert_eq!(calls.rewind::<W>(&sound, 0, &h, &right), 8);
+        assert_eq!(calls.rewind(&sound, 0, &h, &right), 8);
         h[W::BLOCK_BYTES] = sound.held[0];
         let all = calls.random.bytes(sound.total as usize - 1);
         let all = [all, vec![sound.held[0]]].concat();
-        assert_eq!(calls.rewind::<W>(&sound, 0, &all, &right), 9);
-        assert_eq!(calls.rewind::<W>(&sound, 0, &h, &right), if links == 0 { 9 } else { ACCEPTED });
+        assert_eq!(calls.rewind(&sound, 0, &all, &right), 9);
+        assert_eq!(calls.rewind(&sound, 0, &h, &right), if links == 0 { 9 } else { ACCEPTED });
     }
     calls.end("refusals");
 }

@@ -13,7 +13,7 @@ pub const MOST_OUTPUT: u64 = 4096;
 /// A byte of an output before a call.
 const UNTOUCHED: u8 = 0xa5;
 
-/// The name of a line and what makes its call: it is given the words behind the name and prints what is behind the name there. It gives
+/// The name of a line, and the function that makes its call: it reads the words behind the name and gives what is printed behind the name, or
 /// nothing if the words are not those of the call.
 pub type Line = (&'static str, fn(&mut Program, &mut Words) -> Option<String>);
 
@@ -51,12 +51,13 @@ impl Program {
         }
     }
 
+    /// The program after a call, and what is printed; nothing if the line is not a call, which changes nothing then.
     fn after_call(mut self, line: &str) -> Option<(Program, String)> {
         let mut words = Words { rest: line.split(' ') };
-        let name = words.next()?;
+        let name = words.word()?;
         let (_, call) = crate::LINES.iter().copied().flatten().find(|(called, _)| *called == name)?;
         let printed = call(&mut self, &mut words)?;
-        if words.next().is_some() {
+        if words.word().is_some() {
             return None;
         }
         let printed = if printed.is_empty() { name.to_string() } else { format!("{name} {printed}") };
@@ -83,12 +84,13 @@ pub struct Words<'a> {
 }
 
 impl<'a> Words<'a> {
-    fn next(&mut self) -> Option<&'a str> {
+    /// The next word, of any kind.
+    pub fn word(&mut self) -> Option<&'a str> {
         self.rest.next()
     }
 
     pub fn number(&mut self) -> Option<u64> {
-        let digits = self.next()?;
+        let digits = self.word()?;
         // A sign is no digit.
         digits.bytes().all(|digit| digit.is_ascii_digit()).then(|| digits.parse().ok())?
     }
@@ -98,7 +100,7 @@ impl<'a> Words<'a> {
     }
 
     pub fn bytes(&mut self) -> Option<Vec<u8>> {
-        match self.next()? {
+        match self.word()? {
             "" => None,
             "-" => Some(Vec::new()),
             digits => {

@@ -20,6 +20,9 @@ const MOST_ROLL: u64 = 65536;
 /// Bytes of an index.
 const INDEX_BYTES: usize = 2;
 
+/// The bytes of chains, as a roll has them.
+pub type Chains = Vec<Vec<u8>>;
+
 /// The slot that stands for the head, which has an index and no chain.
 const HEAD: usize = 0;
 
@@ -92,7 +95,7 @@ pub fn is_roll_of(w: u64, total: u64, roll: &[u8]) -> bool {
 }
 
 /// The chains of a roll, from the head on.
-pub fn shown(w: u64, roll: &[u8]) -> Vec<Vec<u8>> {
+pub fn shown(w: u64, roll: &[u8]) -> Chains {
     let links = links(w, roll).expect("a roll");
     links.into_iter().map(|slot| chain(w, roll, slot).to_vec()).collect()
 }
@@ -150,14 +153,14 @@ pub fn unlinked(w: u64, before: &[u8], remaining: usize) -> Vec<u8> {
 // ---- the calls ----
 
 /// The outcome of an Append, and the chains of the checkpoints that it lays.
-pub fn append_roll(r: &Record, piece: &[u8], roll: &[u8]) -> (Outcome, Vec<Vec<u8>>) {
+pub fn append_roll(r: &Record, piece: &[u8], roll: &[u8]) -> (Outcome, Chains) {
     match appended_roll(r, piece, roll) {
-        Ok((outcome, due)) => (Outcome::of(r, Ok(outcome)), due),
+        Ok((next, due)) => (Outcome { number: 0, count: next.whole_blocks() - r.whole_blocks(), next }, due),
         Err(number) => (Outcome::refused(number, r), Vec::new()),
     }
 }
 
-fn appended_roll(r: &Record, piece: &[u8], roll: &[u8]) -> Answer<((u64, Record), Vec<Vec<u8>>)> {
+fn appended_roll(r: &Record, piece: &[u8], roll: &[u8]) -> Answer<(Record, Chains)> {
     r.in_turn(0)?;
     needs(is_roll_of(r.w, r.total, roll), 15)?;
     let (mut next, mut rest, mut due) = (*r, piece, Vec::new());
@@ -170,7 +173,7 @@ fn appended_roll(r: &Record, piece: &[u8], roll: &[u8]) -> Answer<((u64, Record)
     (_, next) = appended(&next, rest)?;
     let links = links(r.w, roll).unwrap().len();
     needs(links + due.len() <= slot_count(r.w, roll.len()).unwrap(), 16)?;
-    Ok(((next.whole_blocks() - r.whole_blocks(), next), due))
+    Ok((next, due))
 }
 
 /// Bytes up to the next checkpoint.
