@@ -1,6 +1,8 @@
-//! The block runs of the module against those of lsh_ref, and their refusals.
+//! The block runs of the module against those of lsh_ref, and their refusals: through the archive, and some through the program replay.
 
-use compare::{at_both_word_sizes, block_backward, block_forward, Random, ACCEPTED, BAD_LENGTH, BAD_WORD_SIZE};
+use compare::{
+    at_both_word_sizes, block_backward, block_forward, hex, Random, Script, ACCEPTED, BAD_LENGTH, BAD_WORD_SIZE,
+};
 use lsh_ref::Word;
 
 const RANDOM_BLOCKS: usize = 50_000;
@@ -91,4 +93,20 @@ fn refusals() {
             }
         }
     }
+}
+
+/// Right and wrong numbers and lengths through replay.
+#[test]
+fn lines() {
+    let mut random = Random::new(2);
+    let mut script = Script::default();
+    for w in [0, 31, 32, 33, 64, 65, (1 << 32) + 32, u64::MAX] {
+        for chain_len in [0, 63, 64, 65, 127, 128, 129] {
+            for block_len in [0, 127, 128, 129, 255, 256, 257] {
+                let (chain, block) = (hex(&random.bytes(chain_len)), hex(&random.bytes(block_len)));
+                script.text(&format!("forward {w} {chain} {block}\nbackward {w} {chain} {block}\n"));
+            }
+        }
+    }
+    script.compare("block runs");
 }

@@ -33,6 +33,14 @@ rewind 45 [01*44] => 7 0
 rewind 128 [01*172] => 7 0
 # a held byte that is another
 rewind 0 [01*171]02 => 8 0
+# 6, 7, 8 and 9 are tested in this order: each with what is refused after it
+rewind 172 [01*171] => 6 0
+rewind 128 [01*171] => 6 0
+rewind 301 [01*301] => 6 0
+rewind 173 [01*171]02 => 7 0
+rewind 128 [01*171]02 => 7 0
+rewind 128 02[01*299] => 7 0
+rewind 0 02[01*298]02 => 8 0
 # a byte of a whole block that is another shows only where the whole order is handed back, so that the opening chain is known
 rewind 0 [01*200]02[01*99] => 9 0
 record
