@@ -6,7 +6,8 @@ use native.Mathlib.Nat.{div-div-eq-div-mul, mul-comm, mul-assoc, mul-div-cancel,
 use native.Mathlib.Omega.{arith}
 use Rattle.lsh.specs.WordSize.{sizeOf, blockBytes}
 use Rattle.lsh.proofs.Figures.{block-some}
-use Rattle.checkpoints.specs.Roll.{spacing, checkpoints}
+use Rattle.checkpoints.specs.Due.{spacing}
+use Rattle.checkpoints.specs.Roll.{checkpoints}
 
 module _ (w : ℕ) where
   abbrev B : ℕ

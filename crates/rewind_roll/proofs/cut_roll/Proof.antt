@@ -5,7 +5,7 @@ use borrow.Author.Needs.{needs}
 use Rattle.lsh.specs.WordSize.{sizeOf}
 use Rattle.checkpoints.specs.Checkpoints.{unlinked}
 use Rattle.roll.proofs.Walked.{way-count}
-use Rattle.rewind_roll.proofs.Rewinding.{roll-stays, roll-cut}
+use Rattle.rewind_roll.proofs.Rewinding.{roll-kept, roll-cut}
 use Rattle.rewind_roll.proofs.cut_roll.Statement.{statement}
 use Rattle.rewind_roll.proofs.cut_roll.Tie as tie
 
@@ -13,7 +13,7 @@ pub cut-roll-spec : {M : Type 1} → statement M
 cut-roll-spec =
     tie.close
     (tie.spec
-    (λ c. let z = c .before .before .before in roll-stays (z .args .w) (z .args .o) (z .args .roll .now) (c .if1 .taken))
+    (λ c. let z = c .before .before .before in roll-kept (z .args .w) (z .args .o) (z .args .roll .now) (c .if1 .taken))
     (λ c κs. search needs)
     (λ c κs.
     let z = c .before .before .before .before .before .before in
