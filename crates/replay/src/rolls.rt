@@ -97,6 +97,6 @@ fn rewind(v: [u64; WORDS], r: Record, given: &[u8], roll: &mut [u8]) -> Reply {
 
 // endroll KEEP
 fn end(v: [u64; WORDS], r: Record, roll: &mut [u8]) -> Reply {
-    let o = end_roll::end_roll(r, v[0], roll);
+    let o = rewind_roll::end_roll(r, v[0], roll);
     reply::count(o.number, o.count, o.next)
 }

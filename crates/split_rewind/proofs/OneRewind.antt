@@ -1,7 +1,7 @@
 -- A begin and the hand-backs after it that are accepted: the record is that of the order before them but for how far the rewind is, Abandon gives it
 -- back, and the end is that of one Rewind over their bytes, joined as in the order.
 -- Assumes nothing.
-use mathlib.Core.Path.{_≡_, refl, sym, ap, _∙_, subst}
+use mathlib.Core.Path.{_≡_, refl, sym, ap, ap₂, _∙_, subst}
 use mathlib.Core.Bool.{Bool, true, false, not, cond}
 use mathlib.Core.List.{List, [], _∷_, _++_}
 use Prim.Native.Nat.{ℕ, _+_, _-_, _*_, _/_, _%_, _≤_, _<_, zero-le}
@@ -191,9 +191,17 @@ module _ (r : Record) (arrays : Arrays r) (ok : sound r ≡ true) (idle : isBegu
         go false e = let few = keeps-few B keep size e in wound (few .0) (few .1)
 
     -- the two calls
-    pub end-is : sound y ≡ true → isBegun y ≡ true → endCall y keep ≡ cond (keepsTooMuch B keep size) (refused 7 y) (woundBack y size keep c (lastBytes y))
-    unfolding endCall endInTurn handed withSplit
-    end-is sound-y begun-y = in-turn y sound-y _ (rw begun-y) ∙ rw (← had .size, had .second)
+    handed-is : handed y ≡ size
+    unfolding handed withSplit
+    handed-is = sym (had .size)
+
+    pub wound-is : woundBack y (handed y) keep (y .split .second) (lastBytes y) ≡ woundBack y size keep c (lastBytes y)
+    unfolding withSplit
+    wound-is = ap₂ (λ (k : ℕ) (t : List ℕ). woundBack y k keep t (lastBytes y)) handed-is (had .second)
+
+    end-is : endInTurn y keep ≡ cond (keepsTooMuch B keep size) (refused 7 y) (woundBack y size keep c (lastBytes y))
+    unfolding endInTurn withSplit
+    end-is = ap₂ (λ (k : ℕ) (o : Outcome). cond (keepsTooMuch B keep k) (refused 7 y) o) handed-is wound-is
 
     rewind-is : rewindCall r keep h ≡ cond (keepsTooMuch B keep size) (refused 7 r) (woundBack r size keep c h)
     unfolding rewindCall rewindInTurn heldDiffers
@@ -267,12 +275,14 @@ module _ (r : Record) (arrays : Arrays r) (h : List ℕ) (bs : List (List ℕ)) 
 
   -- the end is that of one Rewind
   pub one-rewind : (keep : ℕ) → endCall x keep ≡ answeredOn x (rewindCall r keep all)
+  unfolding endCall
   one-rewind keep =
       let b = begin-is in
       let had = after-is .handed in
       subst (λ (q : Record). sound q ≡ true → isBegun q ≡ true → endCall q keep ≡ answeredOn q (rewindCall r keep all)) (sym (after-is .is))
       (λ sound-q begun-q.
-      end-is r arrays (b .ok) (b .idle) all s had keep sound-q begun-q
+      in-turn (withSplit r s) sound-q _ (rw begun-q)
+      ∙ end-is r arrays (b .ok) (b .idle) all s had keep
       ∙ ended r arrays (b .ok) (b .idle) all s had keep
       ∙ ap (answeredOn (withSplit r s)) (sym (rewind-is r arrays (b .ok) (b .idle) all s had keep)))
       x-sound x-begun

@@ -1,6 +1,6 @@
 -- After a begin and hand-backs that are accepted the end is that of one Rewind, without a roll and with it.
 -- Assumes nothing.
-use mathlib.Core.Path.{_≡_, refl, ap, _∙_}
+use mathlib.Core.Path.{_≡_, refl, sym, ap, _∙_}
 use mathlib.Core.Bool.{Bool, true, false, not, cond}
 use mathlib.Core.List.{List}
 use Prim.Native.Nat.{ℕ}
@@ -8,17 +8,20 @@ use lib.Dec.{eqb}
 use Rattle.lsh.specs.WordSize.{sizeOf}
 use Rattle.record.specs.declared.Record.{Record}
 use Rattle.record.specs.declared.Outcome.{Outcome}
-use Rattle.record.specs.Record.{withSplit, refused}
+use Rattle.record.specs.Record.{isBegun, withSplit, refused}
+use Rattle.record.specs.Turn.{answered}
 use Rattle.record.specs.Arrays.{Arrays}
+use Rattle.record.proofs.InTurn.{in-turn}
 use Rattle.checkpoints.specs.Roll.{checkpoints, isRollOf}
 use Rattle.checkpoints.specs.Checkpoints.{unlinked}
-use Rattle.rewind.specs.Rewind.{rewindCall}
-use Rattle.split_rewind.specs.End.{endCall}
+use Rattle.checkpoints.proofs.InTurn.{roll-in-turn}
+use Rattle.rewind.specs.Rewind.{rewindInTurn, rewindCall}
+use Rattle.split_rewind.specs.End.{endInTurn, endCall}
 use Rattle.split_rewind.specs.OneRewind.{afterSteps, StepsAccepted, answeredOn, joined}
 use Rattle.split_rewind.proofs.OneRewind.{begin-is, x-sound, x-begun, as-before, one-rewind}
 use Rattle.rewind_roll.specs.RewindRoll.{rewindRollCall, cutRoll, rewoundRoll}
-use Rattle.end_roll.specs.EndRoll.{endRollCall, endedRoll}
-use Rattle.end_roll.specs.AsOneRewind.{AsOneRewind}
+use Rattle.rewind_roll.specs.EndRoll.{endRollCall, endedRoll}
+use Rattle.tape.specs.AsOneRewind.{AsOneRewind}
 
 -- a roll is cut by the number and the new total alone
 cut-answered : (w : ℕ) (x : Record) (o : Outcome) (roll : List ℕ) → cutRoll w (answeredOn x o) roll ≡ cutRoll w o roll
@@ -43,14 +46,27 @@ module _ (r : Record) (arrays : Arrays r) (h : List ℕ) (bs : List (List ℕ)) 
   unfolding withSplit isRollOf
   same-roll roll = ap (λ (q : Record). isRollOf q roll) (as-before r arrays h bs accepted)
 
+  -- in turn the end is the rest of one Rewind
+  rests : endInTurn x keep ≡ answeredOn x (rewindInTurn r keep all)
+  unfolding endCall rewindCall
+  rests =
+      let b = begin-is r arrays h bs accepted in
+      sym (in-turn x (x-sound r arrays h bs accepted) _ (rw (x-begun r arrays h bs accepted)))
+      ∙ one-rewind r arrays h bs accepted keep
+      ∙ ap (answeredOn x) (in-turn r (b .ok) _ (b .idle))
+
   with-roll : (roll : List ℕ) → endRollCall x keep roll ≡ answeredOn x (rewindRollCall r keep all roll)
-  unfolding endRollCall rewindRollCall answeredOn refused
+  unfolding endRollCall rewindRollCall answered answeredOn refused
   with-roll roll =
       let b = begin-is r arrays h bs accepted in
-      rw (x-sound r arrays h bs accepted, x-begun r arrays h bs accepted, same-roll roll, b .ok, b .idle) (go (isRollOf r roll))
+      rw (
+        roll-in-turn x (not (isBegun x)) roll (x-sound r arrays h bs accepted) (rw (x-begun r arrays h bs accepted)),
+        same-roll roll,
+        roll-in-turn r (isBegun r) roll (b .ok) (b .idle),
+      ) (go (isRollOf r roll))
     where
-      go : (t : Bool) → cond (not t) (refused 15 x) (endCall x keep) ≡ answeredOn x (cond (not t) (refused 15 r) (rewindCall r keep all))
-      go true = one-rewind r arrays h bs accepted keep
+      go : (t : Bool) → answered (cond (not t) 15 0) x (endInTurn x keep) ≡ answeredOn x (answered (cond (not t) 15 0) r (rewindInTurn r keep all))
+      go true = rests
       go false = refl
 
   pub as-one-rewind : AsOneRewind r h bs keep

@@ -21,12 +21,13 @@ use Rattle.tag.proofs.Started.{start-accepted, keyed-message}
 use Rattle.tag.proofs.Finished.{same-answer, same-output}
 use Rattle.tag.proofs.Unfinished.{finish-answer-unfinished, finish-output-unfinished}
 use Rattle.tape.specs.Tape.{Lent, Tape}
-use Rattle.tape.specs.TapeSteps.{tapeSplit, tapeRecord}
+use Rattle.tape.specs.TapeRecord.{tapeSplit, tapeRecord}
 use Rattle.tape.specs.Calls.{Call}
 use Rattle.tape.specs.First.{Started}
 use Rattle.tape.specs.Orders.{orderAfter, tapeAfter, Premise}
-use Rattle.tape.proofs.Steps.{Kept}
-use Rattle.tape.proofs.Corrected.{KeptTape, tape-kept, both-sound, corrected-from}
+use Rattle.tape.proofs.Records.{WithinLimit}
+use Rattle.tape.proofs.Corrected.{tape-is-sound, both-sound, corrected-from}
+use Rattle.tape.proofs.OneCall.{SoundTape}
 
 module _ (w n : ℕ) (key : List ℕ) (lent : Lent) (cs : List Call) (accepted : startCall w n key .number ≡ 0) where
   abbrev T : Tape
@@ -38,8 +39,8 @@ module _ (w n : ℕ) (key : List ℕ) (lent : Lent) (cs : List Call) (accepted :
   abbrev split : Split
   split = cond (T .begun) (tapeSplit w n (T .bytes) (T .number)) notBegun
 
-  kept : KeptTape w T
-  kept = tape-kept w n (Started key) lent cs accepted
+  kept : SoundTape w T
+  kept = tape-is-sound w n (Started key) lent cs accepted
 
   first : Keyed w n (length key) 0
   first = start-accepted w n key accepted
@@ -50,8 +51,8 @@ module _ (w n : ℕ) (key : List ℕ) (lent : Lent) (cs : List Call) (accepted :
 
   -- the message m is what the tape has after the key's inner block
   module _ (m : List ℕ) (after : T .bytes ≡ innerKey w n key ++ m) where
-    both : Kept (innerKey w n key ++ m)
-    both = subst Kept after (kept .bytes)
+    both : WithinLimit (innerKey w n key ++ m)
+    both = subst WithinLimit after (kept .bytes)
 
     keyed : Keyed w n (length key) (length m)
     keyed = keyed-message w n key accepted m (both .few)

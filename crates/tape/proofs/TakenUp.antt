@@ -22,18 +22,18 @@ use Rattle.append.proofs.Joins.{append-within}
 use Rattle.checkpoints.specs.Roll.{links, shown, spacing, checkpoints}
 use Rattle.checkpoints.proofs.Shown.{shown-many}
 use Rattle.checkpoints.proofs.Spacing.{step, within}
-use Rattle.tape.specs.Tape.{Roll, Slots, wholeBlocks}
+use Rattle.tape.specs.Tape.{WithRoll, RollSize, wholeBlocks}
 use Rattle.tape.specs.Calls.{Call}
 use Rattle.tape.specs.TapeRoll.{tapeChains, TapeRoll}
 use Rattle.tape.specs.Orders.{orderAfter, tapeAfter, Premise}
 use Rattle.tape.specs.TakenUp.{TakenUp}
 use Rattle.tape.specs.First.{First, firstCall, firstBytes}
-use Rattle.tape.proofs.Steps.{Kept, take-kept, append-next}
+use Rattle.tape.proofs.Records.{WithinLimit, take-within, append-next}
 use Rattle.tape.proofs.Chains.{chains-length, chains-take}
 use Rattle.tape.proofs.First.{new-order}
-use Rattle.tape.proofs.Corrected.{tape-kept, corrected-from}
+use Rattle.tape.proofs.Corrected.{tape-is-sound, corrected-from}
 
-module _ (w : ℕ) (word : isWordSize w ≡ true) (n : ℕ) (digest : isDigestLength w n ≡ true) (s : List ℕ) (kept : Kept s) where
+module _ (w : ℕ) (word : isWordSize w ≡ true) (n : ℕ) (digest : isDigestLength w n ≡ true) (s : List ℕ) (short : WithinLimit s) where
   abbrev Z : WordSize
   Z = sizeOf w
 
@@ -52,15 +52,15 @@ module _ (w : ℕ) (word : isWordSize w ≡ true) (n : ℕ) (digest : isDigestLe
       let rest : List ℕ = drop (k * B) s in
       let all : front ++ rest ≡ s = take-append-drop (k * B) s in
       let size : length front ≡ k * B = length-take-le (k * B) s le in
-      let few : length front + length rest ≤ limit = omega (arith, sym (length-append front rest), ap length all, kept .few) in
+      let few : length front + length rest ≤ limit = omega (arith, sym (length-append front rest), ap length all, short .few) in
       let blocks : length front / B ≡ k = ap (λ (m : ℕ). m / B) size ∙ mul-div-cancel k (block-some w) in
       let is : recordAt w n k (chainAfter k) ≡ recordOf w n front = record-at w n k s le in
       record {
         recorded = is;
         goesOn =
             ap (λ (r : Record). appendCall r rest) is
-            ∙ append-within w n front rest word digest (take-kept (k * B) s kept .few) few
-            ∙ append-next w word n digest front (take-kept (k * B) s kept) rest
+            ∙ append-within w n front rest word digest (take-within (k * B) s short .few) few
+            ∙ append-next w word n digest front (take-within (k * B) s short) rest
             ∙ λ i. record { number = 0; count = length (all i) / B - blocks i; next = recordOf w n (all i) };
       }
 
@@ -87,16 +87,16 @@ module _ (w : ℕ) (word : isWordSize w ≡ true) (n : ℕ) (digest : isDigestLe
       (block-taken-up (spacing * suc j) (has-blocks j inside))
 
 -- the checkpoint at place j of the roll, counted from 0
-module _ (w n : ℕ) (first : First) (slots : Slots) (cs : List Call) (accepted : firstCall w n first .number ≡ 0) where
+module _ (w n : ℕ) (first : First) (size : RollSize) (cs : List Call) (accepted : firstCall w n first .number ≡ 0) where
   abbrev roll : List ℕ
-  roll = orderAfter w (Roll slots) (firstCall w n first .next) cs .roll
+  roll = orderAfter w (WithRoll size) (firstCall w n first .next) cs .roll
 
   abbrev bytes : List ℕ
-  bytes = tapeAfter w (Roll slots) (firstBytes w n first) cs .bytes
+  bytes = tapeAfter w (WithRoll size) (firstBytes w n first) cs .bytes
 
-  pub taken-up : Premise w (Roll slots) (firstBytes w n first) cs → (j : ℕ) → j < length (links (sizeOf w) roll)
+  pub taken-up : Premise w (WithRoll size) (firstBytes w n first) cs → (j : ℕ) → j < length (links (sizeOf w) roll)
       → TakenUp w n (spacing * suc j) (getD (shown (sizeOf w) roll) j []) bytes
   taken-up h =
       let new = new-order w n first accepted in
-      checkpoint-taken-up w (new .word) n (new .digest) bytes (tape-kept w n first (Roll slots) cs accepted .bytes) (slots .count) roll
-      (corrected-from w n first (Roll slots) cs accepted h .asTape .shows)
+      checkpoint-taken-up w (new .word) n (new .digest) bytes (tape-is-sound w n first (WithRoll size) cs accepted .bytes) (size .slots) roll
+      (corrected-from w n first (WithRoll size) cs accepted h .asTape .shows)

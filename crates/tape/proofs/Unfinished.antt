@@ -31,25 +31,25 @@ use Rattle.record.specs.declared.Record.{Record}
 use Rattle.record.specs.declared.Split.{Split}
 use Rattle.record.specs.declared.Outcome.{Outcome}
 use Rattle.record.specs.Split.{notBegun}
-use Rattle.record.specs.Record.{heldOf, heldBytes, sound, isBegun, withSplit, recordOf, refused}
+use Rattle.record.specs.Record.{heldOf, heldBytes, sound, isBegun, withSplit, recordOf}
 use Rattle.record.specs.Arrays.{Arrays}
 use Rattle.record.proofs.Lists.{all-zero}
 use Rattle.record.proofs.Sound.{chain-below}
 use Rattle.record.proofs.Begun.{one-begun-sound, with-sound}
 use Rattle.record.proofs.Strings.{held-record, record-idle, filled-zero}
-use Rattle.rewind.specs.Rewind.{keepsTooMuch, reached}
+use Rattle.rewind.specs.Rewind.{keepsTooMuch, reached, woundBack}
 use Rattle.rewind.proofs.Lengths.{OnBlock, keeps-few}
 use Rattle.split_rewind.specs.Begin.{begun}
 use Rattle.split_rewind.specs.HandBack.{handedBack}
-use Rattle.split_rewind.specs.End.{lastBytes, endCall}
+use Rattle.split_rewind.specs.End.{handed, lastBytes, endInTurn}
 use Rattle.split_rewind.specs.OneRewind.{answeredOn}
 use Rattle.split_rewind.proofs.Lengths.{before-is, blocks-on}
-use Rattle.split_rewind.proofs.OneRewind.{Handed, end-is, wound}
+use Rattle.split_rewind.proofs.OneRewind.{Handed, wound-is, wound}
 use Rattle.tape.specs.Tape.{wholeBlocks}
-use Rattle.tape.specs.TapeSteps.{blockAfter, handedLast, tapeSplit}
-use Rattle.tape.proofs.Steps.{Kept, sound-is, reached-is, last-bytes, cut-next}
+use Rattle.tape.specs.TapeRecord.{blockAfter, handedLast, tapeSplit}
+use Rattle.tape.proofs.Records.{WithinLimit, sound-is, reached-is, last-bytes, cut-next}
 
-module _ (w : ℕ) (word : isWordSize w ≡ true) (n : ℕ) (digest : isDigestLength w n ≡ true) (s : List ℕ) (kept : Kept s) where
+module _ (w : ℕ) (word : isWordSize w ≡ true) (n : ℕ) (digest : isDigestLength w n ≡ true) (s : List ℕ) (short : WithinLimit s) where
   abbrev Z : WordSize
   Z = sizeOf w
 
@@ -73,7 +73,7 @@ module _ (w : ℕ) (word : isWordSize w ≡ true) (n : ℕ) (digest : isDigestLe
   some = block-some w
 
   ok : sound R ≡ true
-  ok = sound-is w word n digest s kept
+  ok = sound-is w word n digest s short
 
   idle : isBegun R ≡ false
   idle = record-idle w n s
@@ -233,23 +233,17 @@ module _ (w : ℕ) (word : isWordSize w ≡ true) (n : ℕ) (digest : isDigestLe
     unfolding isBegun withSplit tapeSplit
     begun-y = refl
 
-    -- the end: 7, or the record of what remains
-    pub end-much : (keep : ℕ) → keepsTooMuch B keep size ≡ true → endCall Y keep ≡ refused 7 Y
-    unfolding recordOf
-    end-much keep much = end-is R arrays ok idle h S handed-is keep sound-y begun-y ∙ rw (h-size, much)
-
+    -- the end where the tests before 9 are passed: the record of what remains
     pub end-cut : (keep : ℕ) → keepsTooMuch B keep size ≡ false
-        → _≡_ {A = Outcome} (endCall Y keep) (record { number = 0; count = size / B; next = recordOf w n (take (length s - size + keep) s) })
-    unfolding recordOf answeredOn
+        → _≡_ {A = Outcome} (woundBack Y (handed Y) keep (Y .split .second) (lastBytes Y)) (record { number = 0; count = size / B; next = recordOf w n (take (length s - size + keep) s) })
+    unfolding recordOf answeredOn endInTurn
     end-cut keep few =
         let most : (keep ≤ size) × (keep < B) = keeps-few B keep size few in
-        let much : keepsTooMuch B keep (length h) ≡ false = ap (keepsTooMuch B keep) h-size ∙ few in
         let some-h : keep ≤ length h = omega (arith, h-size, most .0) in
-        end-is R arrays ok idle h S handed-is keep sound-y begun-y
-        ∙ rw much
-        (wound R arrays ok idle h S handed-is keep some-h (most .1)
+        wound-is R arrays ok idle h S handed-is keep
+        ∙ wound R arrays ok idle h S handed-is keep some-h (most .1)
         ∙ ap (answeredOn Y) (cut-next w word n s keep h on-h (some-h, most .1) back)
-        ∙ ap (λ (i : ℕ). record { number = 0; count = i / B; next = recordOf w n (take (length s - i + keep) s) }) h-size)
+        ∙ ap (λ (i : ℕ). record { number = 0; count = i / B; next = recordOf w n (take (length s - i + keep) s) }) h-size
 
     -- a block more
     module _ (b : List ℕ) (is : b ≡ blockAfter w s (m - (k + 1))) (less : k < m) where

@@ -8,7 +8,7 @@ use Rattle.rewind.specs.Rewind.{rewindCall}
 use Rattle.split_rewind.specs.End.{endCall}
 use Rattle.split_rewind.specs.OneRewind.{afterSteps, answeredOn, joined}
 use Rattle.rewind_roll.specs.RewindRoll.{rewindRollCall, rewoundRoll}
-use Rattle.end_roll.specs.EndRoll.{endRollCall, endedRoll}
+use Rattle.rewind_roll.specs.EndRoll.{endRollCall, endedRoll}
 
 -- the record, the count or the refusal, and the roll; a refused end returns the record after the steps
 pub record AsOneRewind (r : Record) (h : List ℕ) (bs : List (List ℕ)) (keep : ℕ) : Type 0 where

@@ -12,7 +12,7 @@ use Rattle.lsh.specs.Padding.{firstBlocks}
 use Rattle.record.specs.Record.{recordOf}
 use Rattle.checkpoints.specs.Slots.{rollBytes}
 use Rattle.checkpoints.specs.Roll.{newRoll, shown, spacing, checkpoints, isRollOf}
-use Rattle.tape.specs.Tape.{Lent, NoRoll, Roll}
+use Rattle.tape.specs.Tape.{Lent, NoRoll, WithRoll}
 
 -- the tape's first m of these chains: the k-th is the opening chain run over the tape's first 64 k blocks
 abbrev pub tapeChains : ℕ → ℕ → List ℕ → ℕ → List (List ℕ)
@@ -28,9 +28,9 @@ pub record TapeRoll (w n k : ℕ) (s roll : List ℕ) : Type 0 where
 -- the bytes of an order's roll, by what it is lent: none, or a roll that shows the tape's chains
 abbrev pub RollShows : Lent → ℕ → ℕ → List ℕ → List ℕ → Type 0
 RollShows NoRoll w n s roll = roll ≡ []
-RollShows (Roll slots) w n s roll = TapeRoll w n (slots .count) s roll
+RollShows (WithRoll size) w n s roll = TapeRoll w n (size .slots) s roll
 
 -- and before the first call: none, or a new roll
 abbrev pub lentRoll : ℕ → Lent → List ℕ
 lentRoll w NoRoll = []
-lentRoll w (Roll slots) = newRoll (sizeOf w) (slots .count)
+lentRoll w (WithRoll size) = newRoll (sizeOf w) (size .slots)
