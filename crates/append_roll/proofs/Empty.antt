@@ -22,7 +22,7 @@ use Rattle.append.proofs.Empty.{accepted-empty}
 use Rattle.checkpoints.specs.Due.{dueNumbers}
 use Rattle.checkpoints.specs.Slots.{slotCount}
 use Rattle.checkpoints.specs.Roll.{links, isRollOf}
-use Rattle.checkpoints.specs.Checkpoints.{rollAfter}
+use Rattle.checkpoints.specs.Checkpoints.{ifAccepted}
 use Rattle.checkpoints.proofs.Due.{due-none}
 use Rattle.checkpoints.proofs.Form.{linked, roll-of}
 use Rattle.checkpoints.proofs.InTurn.{roll-in-turn}
@@ -37,7 +37,7 @@ none-due r =
 
 -- whatever the answer is
 pub roll-empty : (r : Record) (roll : List ℕ) → appendedRoll r [] roll ≡ roll
-unfolding appendedRoll rollAfter
+unfolding appendedRoll ifAccepted
 roll-empty r roll = rw (none-due r) (either (eqb (appendRollCall r [] roll .number) 0))
   where
     either : (b : Bool) → cond b roll roll ≡ roll

@@ -4,7 +4,7 @@ use mathlib.Core.Path.{_≡_, refl, sym, ap, ap₂, _∙_, subst}
 use mathlib.Core.Bool.{true, not}
 use mathlib.Core.List.{List, [], _∷_, _++_, append-assoc}
 use Prim.Native.Nat.{ℕ, suc, _+_, _-_, _*_, _/_, _%_, _≤_, _<_, zero-le}
-use native.Mathlib.Nat.{add-zero, zero-add, add-assoc, suc-mul, mul-assoc, mul-mod-left, mul-div-cancel, mul-add-div-right, add-mul-div-right, div-add-mod', div-le-self, le-div-iff-mul-le}
+use native.Mathlib.Nat.{add-zero, zero-add, add-assoc, suc-mul, mul-assoc, mul-mod-left, mul-div-cancel, mul-add-div-right, add-mul-div-right, div-add-mod', div-le-self}
 use native.Mathlib.Numerals.{add-one}
 use native.Mathlib.Omega.{arith}
 use lib.ListN.{length, take, drop, length-append, length-drop, take-append-drop}
@@ -33,7 +33,7 @@ use Rattle.checkpoints.specs.Roll.{links, isRoll, checkpoints}
 use Rattle.checkpoints.specs.Checkpoints.{laid, laidAll}
 use Rattle.roll.specs.Way.{wayOf}
 use Rattle.checkpoints.proofs.Due.{due-next, due-none}
-use Rattle.checkpoints.proofs.Spacing.{step, at-checkpoint, blocks-at, unreached, no-fewer}
+use Rattle.checkpoints.proofs.Spacing.{step, at-checkpoint, blocks-at, unreached, no-fewer-blocks, no-fewer}
 use Rattle.checkpoints.proofs.Form.{roll-of}
 use Rattle.checkpoints.proofs.Shown.{laid-size, laid-links, laid-roll}
 use Rattle.append_roll.specs.AppendRoll.{due, chainAt}
@@ -86,10 +86,6 @@ module _ (r : Record) (piece : List ℕ) where
     pub place : r .total + at ≡ have at * Q
 
   module _ (ok : sound r ≡ true) (words : length (r .chain) ≡ 16) (long : length (r .held) ≡ longestBlock) where
-    -- more bytes have no fewer blocks
-    blocks-more : (a b : ℕ) → a / B ≤ (a + b) / B
-    blocks-more a b = le-div-iff-mul-le (block-some (r .w)) .1 (omega (arith, div-add-mod' a B))
-
     -- the chain after the first bytes of a piece is that of the order's whole blocks there
     chain-front : (p q : List ℕ) → appended r p .chain ≡ chainAt r (p ++ q) ((r .total + length p) / B)
     unfolding appended chainAt
@@ -152,7 +148,7 @@ module _ (r : Record) (piece : List ℕ) where
       unfolding appendAccepted appended
       part-count =
           rw (length-take-le at piece (omega arith), part-length)
-          (omega (arith, blocks-more (r .total) at, blocks-more (r .total + at) size, ap (λ (n : ℕ). n / B) (add-assoc (r .total) at size)))
+          (omega (arith, no-fewer-blocks (r .w) (r .total) (r .total + at) (omega arith), no-fewer-blocks (r .w) (r .total + at) (r .total + at + size) (omega arith), ap (λ (n : ℕ). n / B) (add-assoc (r .total) at size)))
 
     module _ (roll : List ℕ) (pass : Accepted r (length piece) roll) where
       start-is : have 0 ≡ checkpoints (r .w) (r .total)
@@ -315,7 +311,7 @@ module _ (r : Record) (piece : List ℕ) where
                         ap (λ (g : List ℕ). length g / B) is-part,
                         ap (λ (n : ℕ). n / B) (part-length at Q le),
                         mul-div-cancel spacing (block-some (r .w)),
-                        blocks-more (r .total) at,
+                        no-fewer-blocks (r .w) (r .total) (r .total + at) (omega arith),
                         ap (λ (n : ℕ). n / B) (sym (add-assoc (r .total) at Q)),
                         add-mul-div-right (r .total + at) spacing (block-some (r .w)),
                       );

@@ -2,9 +2,9 @@
 -- that is not linked then keeps its bytes.
 -- Assumes nothing.
 use mathlib.Core.Path.{_≡_, refl, sym, ap, subst}
-use mathlib.Core.Bool.{false}
+use mathlib.Core.Bool.{true, false}
 use mathlib.Core.List.{List, _++_}
-use Prim.Native.Nat.{ℕ, _+_, _-_, _/_, _<_}
+use Prim.Native.Nat.{ℕ, _+_, _-_, _/_, _≤_, _<_}
 use native.Mathlib.Decide.{ℕ-discrete}
 use native.Mathlib.Omega.{arith}
 use lib.ListN.{length}
@@ -15,16 +15,33 @@ use Rattle.lsh.proofs.Bytes.{octets}
 use Rattle.lsh.proofs.Chains.{after-chain}
 use Rattle.record.specs.declared.Record.{Record}
 use Rattle.record.specs.Record.{heldBytes}
-use Rattle.record.proofs.Sound.{Sound, sounds, chain-is}
+use Rattle.record.proofs.Sound.{sounds, chain-is}
 use Rattle.checkpoints.specs.Due.{checkpointsAt, spacing, dueNumbers}
-use Rattle.checkpoints.specs.Slots.{slotAt}
+use Rattle.checkpoints.specs.Slots.{slotCount, slotAt}
 use Rattle.checkpoints.specs.Members.{member}
-use Rattle.checkpoints.specs.Roll.{links, shown, checkpoints}
+use Rattle.checkpoints.specs.Roll.{links, shown, checkpoints, isRollOf}
 use Rattle.checkpoints.proofs.Due.{due-many}
 use Rattle.checkpoints.proofs.Form.{roll-of}
 use Rattle.checkpoints.proofs.Shown.{Laid, laid-all}
 use Rattle.append_roll.specs.AppendRoll.{due, appendRollAnswer, chainAt, appendedRoll}
-use Rattle.append_roll.proofs.Answers.{Accepted, accepted, refused-call, accepted-call}
+use Rattle.append_roll.proofs.Answers.{Accepted, accepted, goal-of, refused-call, accepted-call}
+
+-- the checkpoints due, on a roll of the record that has room for them
+module _ (r : Record) (chain : Chain (sizeOf (r .w)) (r .chain)) (piece roll : List ℕ) where
+  pub chains : (j : ℕ) → Chain (sizeOf (r .w)) (chainAt r piece j)
+  unfolding chainAt
+  chains j = after-chain (sizeOf (r .w)) (r .chain) (heldBytes r ++ piece) (amounts (r .w)) chain (j - r .total / blockBytes (sizeOf (r .w)))
+
+  pub laid-due : isRollOf r roll ≡ true
+      → length (links (sizeOf (r .w)) roll) + length (due r (length piece)) ≤ slotCount (sizeOf (r .w)) (length roll)
+      → Laid (sizeOf (r .w)) (octets (r .w)) (chainAt r piece) chains roll (due r (length piece)) (goal-of r piece roll)
+  unfolding due dueNumbers checkpoints
+  laid-due of room =
+      let Z = sizeOf (r .w) in
+      let old : ℕ = r .total / blockBytes Z in
+      let new : ℕ = (r .total + length piece) / blockBytes Z in
+      let is = roll-of r roll of in
+      laid-all Z (octets (r .w)) (chainAt r piece) chains (new / spacing - old / spacing) (old / spacing) roll (is .0) (is .1) (omega (arith, room, is .1, due-many old new))
 
 module _ (r : Record) (words : length (r .chain) ≡ 16) (piece roll : List ℕ) where
   abbrev Z : WordSize
@@ -34,22 +51,13 @@ module _ (r : Record) (words : length (r .chain) ≡ 16) (piece roll : List ℕ)
     pass : Accepted r (length piece) roll
     pass = accepted r (length piece) roll taken
 
-    is : Sound r
-    is = sounds r (pass .taken)
+    chain : Chain Z (r .chain)
+    chain = let is = sounds r (pass .taken) in chain-is (r .w) (r .chain) (is .word) words (is .below)
 
-    chains : (j : ℕ) → Chain Z (chainAt r piece j)
-    unfolding chainAt
-    chains j = after-chain Z (r .chain) (heldBytes r ++ piece) (amounts (r .w)) (chain-is (r .w) (r .chain) (is .word) words (is .below)) (j - r .total / blockBytes Z)
-
-    all : Laid Z (octets (r .w)) (chainAt r piece) chains roll (due r (length piece)) (appendedRoll r piece roll)
-    unfolding due dueNumbers checkpoints
+    all : Laid Z (octets (r .w)) (chainAt r piece) (chains r chain piece roll) roll (due r (length piece)) (appendedRoll r piece roll)
     all =
-        let of = roll-of r roll (pass .rollOf) in
-        let old : ℕ = r .total / blockBytes Z in
-        let new : ℕ = (r .total + length piece) / blockBytes Z in
-        subst (Laid Z (octets (r .w)) (chainAt r piece) chains roll (due r (length piece))) (accepted-call r piece roll refl taken .1)
-        (laid-all Z (octets (r .w)) (chainAt r piece) chains (new / spacing - old / spacing) (old / spacing) roll (of .0) (of .1)
-        (omega (arith, pass .room, of .1, due-many old new)))
+        subst (Laid Z (octets (r .w)) (chainAt r piece) (chains r chain piece roll) roll (due r (length piece))) (accepted-call r piece roll refl taken .1)
+        (laid-due r chain piece roll (pass .rollOf) (pass .room))
 
     pub appended-shown : shown Z (appendedRoll r piece roll) ≡ shown Z roll ++ checkpointsAt (chainAt r piece) (due r (length piece))
     appended-shown = all .shows

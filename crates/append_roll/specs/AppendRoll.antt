@@ -17,7 +17,7 @@ use Rattle.append.specs.Append.{appendAccepted}
 use Rattle.checkpoints.specs.Due.{checkpointsAt, dueNumbers}
 use Rattle.checkpoints.specs.Slots.{slotCount}
 use Rattle.checkpoints.specs.Roll.{links, rollAnswer}
-use Rattle.checkpoints.specs.Checkpoints.{laidAll, rollAfter}
+use Rattle.checkpoints.specs.Checkpoints.{laidAll, ifAccepted}
 
 -- the numbers of the checkpoints that are due with size bytes more
 unfoldable pub due : Record → ℕ → List ℕ
@@ -47,4 +47,4 @@ chainAt r piece k = chainAfter (sizeOf (r .w)) (r .chain) (heldBytes r ++ piece)
 -- the roll after the call: each checkpoint that is due is laid, in order
 unfoldable pub appendedRoll : Record → List ℕ → List ℕ → List ℕ
 appendedRoll r piece roll =
-    rollAfter (appendRollCall r piece roll) (laidAll (sizeOf (r .w)) (checkpointsAt (chainAt r piece) (due r (length piece))) roll) roll
+    ifAccepted (appendRollCall r piece roll) (laidAll (sizeOf (r .w)) (checkpointsAt (chainAt r piece) (due r (length piece))) roll) roll

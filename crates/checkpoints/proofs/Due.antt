@@ -9,7 +9,7 @@ use lib.Dec.{leb}
 use lib.ListN.{length, take}
 use lib.Seq.{take-at}
 use borrow.Author.Tests.{leb-true, leb-false}
-use Rattle.checkpoints.specs.Due.{Checkpoint, checkpointsAt, numbersOf, spacing, multiplesAfter, dueNumbers, upTo}
+use Rattle.checkpoints.specs.Due.{Checkpoint, checkpointsAt, numbersOf, spacing, multiplesAfter, dueNumbers, Each, upTo}
 
 pub multiples-many : (k d : ℕ) → length (multiplesAfter k d) ≡ d
 multiples-many k zero = refl
@@ -61,16 +61,14 @@ module _ (old new : ℕ) where
       multiples-add (mid / spacing - old / spacing) (old / spacing) (new / spacing - mid / spacing) (new / spacing - old / spacing) (mid / spacing)
       (omega arith) (omega arith)
 
-  -- two rules that agree above old and up to new give the same checkpoints
-  pub due-same : (f g : ℕ → List ℕ) → ((k : ℕ) → old < k → k ≤ new → f k ≡ g k) → checkpointsAt f (dueNumbers old new) ≡ checkpointsAt g (dueNumbers old new)
+  -- each is above old and up to new
+  pub due-each : (P : ℕ → Type 0) → ((k : ℕ) → old < k → k ≤ new → P k) → Each P (dueNumbers old new)
   unfolding dueNumbers
-  due-same f g same = go (new / spacing - old / spacing) (old / spacing) (λ j from to. same (spacing * j) (omega arith) (omega arith))
+  due-each P holds = go (new / spacing - old / spacing) (old / spacing) (λ j from to. holds (spacing * j) (omega arith) (omega arith))
     where
-      go : (d k : ℕ) → ((j : ℕ) → k < j → j ≤ k + d → f (spacing * j) ≡ g (spacing * j)) → checkpointsAt f (multiplesAfter k d) ≡ checkpointsAt g (multiplesAfter k d)
-      go zero k same = refl
-      go (suc d) k same =
-          ap₂ (λ (t : List ℕ) (cs : List Checkpoint). record { number = spacing * suc k; chain = t } ∷ cs)
-          (same (suc k) (omega arith) (omega arith)) (go d (suc k) (λ j from to. same j (omega arith) (omega arith)))
+      go : (d k : ℕ) → ((j : ℕ) → k < j → j ≤ k + d → P (spacing * j)) → Each P (multiplesAfter k d)
+      go zero k holds = tt
+      go (suc d) k holds = (holds (suc k) (omega arith) (omega arith), go d (suc k) (λ j from to. holds j (omega arith) (omega arith)))
 
 -- those of the numbers up to c that are up to b
 up-to-many : (b c : ℕ) → b ≤ c → upTo b (dueNumbers 0 c) ≡ b / spacing - 0 / spacing
@@ -81,6 +79,11 @@ pub due-up-to : (b c : ℕ) → b ≤ c → take (upTo b (dueNumbers 0 c)) (dueN
 due-up-to b c le =
     ap (take (upTo b (dueNumbers 0 c))) (due-parts 0 c b (omega arith) le)
     ∙ take-at (dueNumbers 0 b) (dueNumbers b c) (upTo b (dueNumbers 0 c)) (due-many 0 b ∙ sym (up-to-many b c le))
+
+-- two rules that agree at the numbers give the same checkpoints
+pub same-at : (f g : ℕ → List ℕ) (l : List ℕ) → Each (λ (k : ℕ). f k ≡ g k) l → checkpointsAt f l ≡ checkpointsAt g l
+same-at f g [] same = refl
+same-at f g (x ∷ l) same = ap₂ (λ (t : List ℕ) (cs : List Checkpoint). record { number = x; chain = t } ∷ cs) (same .0) (same-at f g l (same .1))
 
 module _ (f : ℕ → List ℕ) where
   pub numbers-at : (l : List ℕ) → numbersOf (checkpointsAt f l) ≡ l

@@ -14,7 +14,7 @@ use Rattle.record.specs.Record.{sound, refused}
 use Rattle.record.specs.Turn.{turnAnswer, answered}
 use Rattle.record.proofs.InTurn.{answered-refused, answered-rest, turn-passed}
 use Rattle.checkpoints.specs.Roll.{isRollOf, rollAnswer}
-use Rattle.checkpoints.specs.Checkpoints.{rollAfter}
+use Rattle.checkpoints.specs.Checkpoints.{ifAccepted}
 
 module _ (r : Record) (out : Bool) (s : List ℕ) where
   pub roll-passed : rollAnswer r out s ≡ 0 → (sound r ≡ true) × (out ≡ false) × (isRollOf r s ≡ true)
@@ -45,10 +45,10 @@ module _ (r : Record) {out : Bool} (s : List ℕ) (rest : Outcome) {a : ℕ} {b 
   roll-rest none = answered-rest (rollAnswer r out s) r rest (sym same-turn ∙ none)
 
 module _ (o : Outcome) (changed roll : List ℕ) where
-  pub roll-changed : o .number ≡ 0 → rollAfter o changed roll ≡ changed
-  unfolding rollAfter
+  pub roll-changed : o .number ≡ 0 → ifAccepted o changed roll ≡ changed
+  unfolding ifAccepted
   roll-changed accepted = rw (eq-eqb (o .number) 0 accepted)
 
-  pub roll-stays : (o .number ≡ 0 → ⊥) → rollAfter o changed roll ≡ roll
-  unfolding rollAfter
+  pub roll-stays : (o .number ≡ 0 → ⊥) → ifAccepted o changed roll ≡ roll
+  unfolding ifAccepted
   roll-stays refused = rw (ne-eqb (o .number) 0 refused)

@@ -2,7 +2,7 @@
 -- Assumes nothing.
 use mathlib.Core.Path.{_≡_, sym, ap, _∙_}
 use Prim.Native.Nat.{ℕ, _+_, _-_, _*_, _/_, _%_, _≤_, _<_}
-use native.Mathlib.Nat.{div-div-eq-div-mul, mul-comm, mul-assoc, mul-div-cancel, div-add-mod', mod-lt, lt-of-mul-lt-mul-right}
+use native.Mathlib.Nat.{div-div-eq-div-mul, mul-comm, mul-assoc, mul-div-cancel, div-add-mod', mod-lt, le-div-iff-mul-le, lt-of-mul-lt-mul-right}
 use native.Mathlib.Omega.{arith}
 use Rattle.lsh.specs.WordSize.{sizeOf, blockBytes}
 use Rattle.lsh.proofs.Figures.{block-some}
@@ -46,7 +46,10 @@ module _ (w : ℕ) where
       let less : b / step * step < k * step = omega (arith, div-add-mod' b step) in
       rw (by-bytes b) (lt-of-mul-lt-mul-right step {m = b / step} {n = k} less)
 
-  -- so there are no fewer with more bytes
+  -- with more bytes there are no fewer whole blocks, and no fewer checkpoints
+  pub no-fewer-blocks : (a b : ℕ) → a ≤ b → a / B ≤ b / B
+  no-fewer-blocks a b le = le-div-iff-mul-le (block-some w) .1 (omega (arith, div-add-mod' a B))
+
   pub no-fewer : (a b : ℕ) → a ≤ b → checkpoints w a ≤ checkpoints w b
   no-fewer a b le = reached (checkpoints w a) b (omega (arith, within a))
 

@@ -49,5 +49,5 @@ unfoldable pub cutTo : WordSize → ℕ → List ℕ → List ℕ
 cutTo z k s = unlinked z (upTo k (numbersOf (shown z s))) s
 
 -- the roll after a call, by its answer: changed if that is 0, else as it was
-unfoldable pub rollAfter : Outcome → List ℕ → List ℕ → List ℕ
-rollAfter o changed roll = cond (eqb (o .number) 0) changed roll
+unfoldable pub ifAccepted : Outcome → List ℕ → List ℕ → List ℕ
+ifAccepted o changed roll = cond (eqb (o .number) 0) changed roll

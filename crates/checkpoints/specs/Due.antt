@@ -30,6 +30,11 @@ multiplesAfter k (suc d) = spacing * suc k ∷ multiplesAfter (suc k) d
 unfoldable pub dueNumbers : ℕ → ℕ → List ℕ
 dueNumbers old new = multiplesAfter (old / spacing) (new / spacing - old / spacing)
 
+-- P holds of each element
+abbrev pub Each : {A : Type 0} → (A → Type 0) → List A → Type 0
+Each P [] = Unit {0}
+Each P (x ∷ l) = P x × Each P l
+
 -- how many of the numbers, from the front, are up to k
 abbrev pub upTo : ℕ → List ℕ → ℕ
 upTo k [] = 0
