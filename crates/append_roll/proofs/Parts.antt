@@ -1,11 +1,10 @@
 -- An Append in parts that end at checkpoints: what is done after at bytes of the piece, part by part, and what it comes to at the end.
 -- Assumes nothing.
 use mathlib.Core.Path.{_≡_, refl, sym, ap, ap₂, _∙_, subst}
-use mathlib.Core.Bool.{true, not}
+use mathlib.Core.Bool.{true}
 use mathlib.Core.List.{List, [], _∷_, _++_, append-assoc}
-use Prim.Native.Nat.{ℕ, suc, _+_, _-_, _*_, _/_, _%_, _≤_, _<_, zero-le}
-use native.Mathlib.Nat.{add-zero, zero-add, add-assoc, suc-mul, mul-assoc, mul-mod-left, mul-div-cancel, mul-add-div-right, add-mul-div-right, div-add-mod', div-le-self}
-use native.Mathlib.Numerals.{add-one}
+use Prim.Native.Nat.{ℕ, _+_, _-_, _*_, _/_, _%_, _≤_, _<_, zero-le}
+use native.Mathlib.Nat.{add-zero, add-assoc, mul-assoc, mul-mod-left, mul-div-cancel, mul-add-div-right, add-mul-div-right, div-add-mod', div-le-self}
 use native.Mathlib.Omega.{arith}
 use lib.ListN.{length, take, drop, length-append, length-drop, take-append-drop}
 use lib.Seq.{length-take-le, take-add, take-all, take-length}
@@ -53,18 +52,18 @@ module _ (r : Record) (piece : List ℕ) where
   abbrev so-far : ℕ → Record
   so-far at = appended r (take at piece)
 
-  abbrev blocks-at-place : ℕ → ℕ
-  blocks-at-place at = (r .total + at) / B
+  abbrev blocks-after : ℕ → ℕ
+  blocks-after at = (r .total + at) / B
 
   abbrev have : ℕ → ℕ
   have at = checkpoints (r .w) (r .total + at)
 
   -- the roll s with the checkpoint after at bytes laid, and with those that are still due then
   abbrev pub laid-at : ℕ → List ℕ → List ℕ
-  laid-at at s = laid Z (record { number = blocks-at-place at; chain = so-far at .chain }) s
+  laid-at at s = laid Z (record { number = blocks-after at; chain = so-far at .chain }) s
 
   abbrev left : ℕ → List ℕ
-  left at = dueNumbers (blocks-at-place at) (blocks-at-place (length piece))
+  left at = dueNumbers (blocks-after at) (blocks-after (length piece))
 
   abbrev pub due-after : ℕ → List ℕ → List ℕ
   due-after at s = laidAll Z (checkpointsAt (chainAt r piece) (left at)) s
@@ -97,7 +96,7 @@ module _ (r : Record) (piece : List ℕ) where
         sym (after-front Z (r .chain) whole q (length whole / B) few ∙ after-all Z (r .chain) whole)
         ∙ ap₂ (chainAfter Z (r .chain)) (append-assoc (heldBytes r) p q) n
 
-    chain-there : (at : ℕ) → at ≤ length piece → so-far at .chain ≡ chainAt r piece (blocks-at-place at)
+    chain-there : (at : ℕ) → at ≤ length piece → so-far at .chain ≡ chainAt r piece (blocks-after at)
     chain-there at le =
         chain-front (take at piece) (drop at piece)
         ∙ ap₂ (chainAt r) (take-append-drop at piece) (ap (λ (n : ℕ). (r .total + n) / B) (length-take-le at piece le))
@@ -151,12 +150,9 @@ module _ (r : Record) (piece : List ℕ) where
           (omega (arith, no-fewer-blocks (r .w) (r .total) (r .total + at) (omega arith), no-fewer-blocks (r .w) (r .total + at) (r .total + at + size) (omega arith), ap (λ (n : ℕ). n / B) (add-assoc (r .total) at size)))
 
     module _ (roll : List ℕ) (pass : Accepted r (length piece) roll) where
-      start-is : have 0 ≡ checkpoints (r .w) (r .total)
-      start-is = ap (checkpoints (r .w)) (add-zero (r .total))
-
       start-left : left 0 ≡ due r (length piece)
       unfolding due
-      start-left = ap (λ (n : ℕ). dueNumbers (n / B) (blocks-at-place (length piece))) (add-zero (r .total))
+      start-left = ap (λ (n : ℕ). dueNumbers (n / B) (blocks-after (length piece))) (add-zero (r .total))
 
       -- before the piece, and where the first checkpoint is not reached
       stage-none : Stage 0 roll 0 roll
@@ -171,33 +167,30 @@ module _ (r : Record) (piece : List ℕ) where
       so-far-sound at le =
           appended-sound r ok words long (take at piece) (pass .idle) (omega (arith, length-take-le at piece le, pass .within))
 
-      module _ {start : ℕ} {from : List ℕ} {at : ℕ} {now : List ℕ} (p : Stage start from at now) where
-        abbrev k : ℕ
-        k = have at
+      -- the next checkpoint is after end bytes
+      module _ {start : ℕ} {from : List ℕ} {at : ℕ} {now : List ℕ} (p : Stage start from at now) (end : ℕ) (next : r .total + end ≡ (have at + 1) * Q) where
+        have-next : have end ≡ have at + 1
+        have-next = ap (checkpoints (r .w)) next ∙ at-checkpoint (r .w) (have at + 1)
 
-        -- the next checkpoint is reached
-        module _ (size : ℕ) (le : at + size ≤ length piece) (next : r .total + (at + size) ≡ (k + 1) * Q) where
-          have-next : have (at + size) ≡ k + 1
-          have-next = ap (checkpoints (r .w)) next ∙ at-checkpoint (r .w) (k + 1)
+        place-next : r .total + end ≡ have end * Q
+        place-next = next ∙ ap (λ (n : ℕ). n * Q) (sym have-next)
 
-          more : k + 1 ≤ have (length piece)
-          more = omega (arith, have-next, no-fewer (r .w) (r .total + (at + size)) (r .total + length piece) (omega arith))
-
-          left-next : left at ≡ blocks-at-place (at + size) ∷ left (at + size)
+        -- and is reached
+        module _ (le : end ≤ length piece) where
+          left-next : left at ≡ blocks-after end ∷ left end
           unfolding checkpoints
           left-next =
-              due-next (blocks-at-place at) (blocks-at-place (length piece))
-              (ap (λ (n : ℕ). n / B) next ∙ blocks-at (r .w) (k + 1) ∙ ap (λ (n : ℕ). spacing * n) (add-one k)) (omega (arith, more))
+              due-next (blocks-after at) (blocks-after (length piece)) (ap (λ (n : ℕ). n / B) next ∙ blocks-at (r .w) (have at + 1) ∙ omega arith)
+              (omega (arith, have-next, no-fewer (r .w) (r .total + end) (r .total + length piece) (omega arith)))
 
           part-room : length (links Z now) < slotCount Z (length now)
           part-room = omega (arith, p .room, ap length left-next)
 
-          t-chain : Chain Z (so-far (at + size) .chain)
-          t-chain = appended-chain r ok words long (take (at + size) piece)
-
-          stage-more : {now' : List ℕ} → now' ≡ laid-at (at + size) now → Stage start from (at + size) now'
+          stage-more : {now' : List ℕ} → now' ≡ laid-at end now → Stage start from end now'
           stage-more {now'} is =
               let ok8 = octets (r .w) in
+              let there = chain-there end le in
+              let t-chain = appended-chain r ok words long (take end piece) in
               let size-is : length now' ≡ length now = ap length is ∙ laid-size Z ok8 now (p .form) part-room _ t-chain in
               let many : length (links Z now') ≡ length (links Z now) + 1 =
               ap (λ (s : List ℕ). length (links Z s)) is ∙ ap length (laid-links Z ok8 now (p .form) part-room _ t-chain) ∙ length-append (links Z now) _ in
@@ -207,43 +200,34 @@ module _ (r : Record) (piece : List ℕ) where
                 room = omega (arith, p .room, many, ap length left-next, ap (slotCount Z) size-is);
                 same = size-is ∙ p .same;
                 rest =
-                    ap (due-after (at + size)) (is ∙ ap (λ (c : List ℕ). laid Z (record { number = blocks-at-place (at + size); chain = c }) now) (chain-there (at + size) le))
+                    ap (due-after end) (is ∙ ap (λ (c : List ℕ). laid Z (record { number = blocks-after end; chain = c }) now) there)
                     ∙ ap (λ (l : List ℕ). laidAll Z (checkpointsAt (chainAt r piece) l) now) (sym left-next)
                     ∙ p .rest;
               }
 
-          place-next : r .total + (at + size) ≡ have (at + size) * Q
-          place-next = next ∙ ap (λ (n : ℕ). n * Q) (sym have-next)
-
-        -- no further one is reached
-        stage-end : (size : ℕ) → length piece < at + size → r .total + (at + size) ≡ (k + 1) * Q → now ≡ due-after start from
+        -- or is not
+        stage-end : length piece < end → now ≡ due-after start from
         unfolding checkpoints
-        stage-end size less next =
+        stage-end less =
             let none-left : left at ≡ [] =
-            due-none (blocks-at-place at) (blocks-at-place (length piece)) (omega (arith, unreached (r .w) (k + 1) (r .total + length piece) (omega arith))) in
+            due-none (blocks-after at) (blocks-after (length piece)) (omega (arith, unreached (r .w) (have at + 1) (r .total + length piece) (omega arith))) in
             ap (λ (l : List ℕ). laidAll Z (checkpointsAt (chainAt r piece) l) now) (sym none-left) ∙ p .rest
 
       -- the first part
       module _ (first : ℕ) (next : r .total + first ≡ (checkpoints (r .w) (r .total) + 1) * Q) where
-        next-first : r .total + (0 + first) ≡ (have 0 + 1) * Q
-        next-first = ap (λ (n : ℕ). r .total + n) (zero-add first) ∙ next ∙ ap (λ (n : ℕ). (n + 1) * Q) (sym start-is)
+        next-first : r .total + first ≡ (have 0 + 1) * Q
+        next-first = next ∙ ap (λ (n : ℕ). (checkpoints (r .w) n + 1) * Q) (sym (add-zero (r .total)))
 
         -- it is longer than the piece
         pub none-reached : length piece < first → roll ≡ goal-of r piece roll
-        none-reached less = stage-end stage-none first (omega arith) next-first ∙ goal-is
+        none-reached less = stage-end stage-none first next-first less ∙ goal-is
 
         module _ (le : first ≤ length piece) where
-          reach : 0 + first ≤ length piece
-          reach = omega arith
-
           pub first-room : length (links Z roll) < slotCount Z (length roll)
-          first-room = part-room stage-none first reach next-first
+          first-room = part-room stage-none first next-first le
 
           first-stage : {now : List ℕ} → now ≡ laid-at first roll → Stage 0 roll first now
-          first-stage {now} el =
-              let zero-first : 0 + first ≡ first = zero-add first in
-              subst (λ (n : ℕ). Stage 0 roll n now) zero-first
-              (stage-more stage-none first reach next-first (el ∙ ap (λ (n : ℕ). laid-at n roll) (sym zero-first)))
+          first-stage = stage-more stage-none first next-first le
 
           pub first-parted : {chain : List ℕ} {count : ℕ} {known : Way} {now : List ℕ}
               → chain ≡ so-far first .chain → count ≡ appendAccepted r (take first piece) .count
@@ -257,7 +241,7 @@ module _ (r : Record) (piece : List ℕ) where
                 reached = ec;
                 blocks = en ∙ ap (λ (n : ℕ). (r .total + n) / B - r .total / B) (length-take-le first piece le);
                 way = ek;
-                place = subst (λ (n : ℕ). r .total + n ≡ have n * Q) (zero-add first) (place-next stage-none first reach next-first);
+                place = place-next stage-none first next-first;
               }
 
           -- what is due then gives the roll that is wanted
@@ -267,9 +251,7 @@ module _ (r : Record) (piece : List ℕ) where
       -- the further parts
       module _ {start : ℕ} {from : List ℕ} {chain : List ℕ} {count : ℕ} {known : Way} {at : ℕ} {now : List ℕ} (p : Parted start from chain count known at now) where
         next-place : r .total + (at + Q) ≡ (have at + 1) * Q
-        next-place =
-            sym (add-assoc (r .total) at Q) ∙ ap (λ (n : ℕ). n + Q) (p .place)
-            ∙ sym (ap (λ (n : ℕ). n * Q) (add-one (have at)) ∙ suc-mul (have at) Q)
+        next-place = omega (arith, p .place)
 
         pub chain-ok : Chain Z chain
         chain-ok = subst (Chain Z) (sym (p .reached)) (appended-chain r ok words long (take at piece))
@@ -279,7 +261,7 @@ module _ (r : Record) (piece : List ℕ) where
 
         module _ (le : at + Q ≤ length piece) where
           pub next-room : length (links Z now) < slotCount Z (length now)
-          next-room = part-room (p .stage) Q le next-place
+          next-room = part-room (p .stage) (at + Q) next-place le
 
           -- a part is given, and its blocks run on the chain
           module _ (given : List ℕ) (is-part : given ≡ part at Q le) where
@@ -300,8 +282,8 @@ module _ (r : Record) (piece : List ℕ) where
                 let there = ec ∙ chain-is-next in
                 subst (λ (n : ℕ). Parted start from chain' count' known' n now') (sym ee)
                 (record {
-                  stage = stage-more (p .stage) Q le next-place
-                      (el (blocks-at-place (at + Q)) ∙ ap (λ (c : List ℕ). laid Z (record { number = blocks-at-place (at + Q); chain = c }) now) there);
+                  stage = stage-more (p .stage) (at + Q) next-place le
+                      (el (blocks-after (at + Q)) ∙ ap (λ (c : List ℕ). laid Z (record { number = blocks-after (at + Q); chain = c }) now) there);
                   reached = there;
                   blocks =
                       en
@@ -316,12 +298,12 @@ module _ (r : Record) (piece : List ℕ) where
                         add-mul-div-right (r .total + at) spacing (block-some (r .w)),
                       );
                   way = ek;
-                  place = place-next (p .stage) Q le next-place;
+                  place = place-next (p .stage) (at + Q) next-place;
                 })
 
         -- the end
         pub parted-roll : length piece < at + Q → now ≡ due-after start from
-        parted-roll less = stage-end (p .stage) Q less next-place
+        parted-roll less = stage-end (p .stage) (at + Q) next-place less
 
         pub parted-end : (rest : List ℕ) → rest ≡ drop at piece → {order : Record} → order ≡ so-far at
             → _≡_ {A = Outcome}

@@ -15,7 +15,7 @@ use Rattle.lsh.specs.Padding.{firstBlocks, blocksOf}
 use Rattle.lsh.specs.Chains.{chainAfter}
 use Rattle.lsh.proofs.Blocks.{backwards-append}
 use Rattle.lsh.proofs.Padding.{blockAt, firstBlocks-more}
-use Rattle.lsh.proofs.Chains.{after-none, after-more, after-all}
+use Rattle.lsh.proofs.Chains.{after-more, after-all}
 
 -- the part of s that the code lends for block k, from place k * B to k * B + B
 abbrev pub part : WordSize → List ℕ → ℕ → List ℕ
@@ -39,7 +39,8 @@ pub record RunForward (z : WordSize) (n : ℕ) (s t c : List ℕ) (count : ℕ) 
   pub chain : c ≡ chainAfter z t s count
 
 pub run-forward-none : (z : WordSize) (n : ℕ) (s t : List ℕ) → RunForward z n s t t 0
-run-forward-none z n s t = record { upTo = zero-le; chain = sym (after-none z t s) }
+unfolding chainAfter firstBlocks forwards
+run-forward-none z n s t = record { upTo = zero-le; chain = refl }
 
 pub run-forward-more : {z : WordSize} {n : ℕ} {s t c : List ℕ} {count : ℕ} (u : List ℕ) → RunForward z n s t c count → count < n
     → u ≡ forward z (wordsOf z 32 (part z s count)) c → RunForward z n s t u (count + 1)

@@ -2,8 +2,10 @@
 -- Assumes nothing.
 use mathlib.Core.Path.{_≡_, refl, sym, ap, _∙_}
 use mathlib.Core.List.{List, [], _∷_, _++_}
-use Prim.Native.Nat.{ℕ, suc, _+_, _*_, _/_, _≤_}
-use lib.ListN.{length, drop}
+use Prim.Native.Nat.{ℕ, suc, _+_, _*_, _/_, _≤_, _<_}
+use native.Mathlib.Nat.{le-of-eq, mul-div-cancel}
+use lib.ListN.{length, take, drop, take-append-drop}
+use lib.Seq.{length-take-le}
 use Rattle.lsh.specs.WordSize.{WordSize, blockBytes}
 use Rattle.lsh.specs.Block.{Chain, forward, forwards}
 use Rattle.lsh.specs.Padding.{firstBlocks, blocksOf}
@@ -13,10 +15,6 @@ use Rattle.lsh.proofs.Blocks.{forwards-chain, forwards-append}
 use Rattle.lsh.proofs.Padding.{blockAt, firstBlocks-add, firstBlocks-more, firstBlocks-front}
 
 module _ (z : WordSize) (t s : List ℕ) where
-  pub after-none : chainAfter z t s 0 ≡ t
-  unfolding chainAfter forwards firstBlocks
-  after-none = refl
-
   -- after one block more
   pub after-more : (k : ℕ) → chainAfter z t s (suc k) ≡ forward z (blockAt z s k) (chainAfter z t s k)
   unfolding chainAfter forwards
@@ -43,3 +41,14 @@ module _ (z : WordSize) (t s : List ℕ) where
   pub after-front : (p : List ℕ) (k : ℕ) → k * blockBytes z ≤ length s → chainAfter z t (s ++ p) k ≡ chainAfter z t s k
   unfolding chainAfter
   after-front p k le = ap (λ (bs : List (List ℕ)). forwards z bs t) (firstBlocks-front z k s p le)
+
+-- the first k blocks alone
+pub after-take : (z : WordSize) → 0 < blockBytes z → (t s : List ℕ) (k : ℕ) → k * blockBytes z ≤ length s
+    → chainAfter z t s k ≡ forwards z (blocksOf z (take (k * blockBytes z) s)) t
+after-take z some t s k le =
+    let front : List ℕ = take (k * blockBytes z) s in
+    let size : length front ≡ k * blockBytes z = length-take-le (k * blockBytes z) s le in
+    ap (λ (u : List ℕ). chainAfter z t u k) (sym (take-append-drop (k * blockBytes z) s))
+    ∙ after-front z t front (drop (k * blockBytes z) s) k (le-of-eq (sym size))
+    ∙ ap (chainAfter z t front) (sym (ap (λ (n : ℕ). n / blockBytes z) size ∙ mul-div-cancel k some))
+    ∙ after-all z t front

@@ -19,7 +19,7 @@ use Rattle.lsh.proofs.Figures.{amounts, block-some}
 use Rattle.lsh.proofs.Blocks.{forwards-chain}
 use Rattle.lsh.proofs.Opening.{opening-chain}
 use Rattle.lsh.proofs.Padding.{length-rest, rest-none}
-use Rattle.lsh.proofs.Chains.{after-front, after-all}
+use Rattle.lsh.proofs.Chains.{after-take}
 use Rattle.runs.specs.Limits.{longestBlock, isDigestLength, limit}
 use Rattle.runs.specs.ZeroFilled.{zeroFilled}
 use Rattle.runs.proofs.Zeros.{drop-replicate}
@@ -86,18 +86,12 @@ record-at w n k s le =
     let B : ℕ = blockBytes z in
     let front : List ℕ = take (k * B) s in
     let size : length front ≡ k * B = length-take-le (k * B) s le in
-    let count : length front / B ≡ k = ap (λ (m : ℕ). m / B) size ∙ mul-div-cancel k (block-some w) in
-    let chain : chainAfter z (opening z n) s k ≡ forwards z (blocksOf z front) (opening z n) =
-    ap (λ (b : List ℕ). chainAfter z (opening z n) b k) (sym (take-append-drop (k * B) s))
-    ∙ after-front z (opening z n) front (drop (k * B) s) k (le-of-eq (sym size))
-    ∙ ap (chainAfter z (opening z n) front) (sym count)
-    ∙ after-all z (opening z n) front in
     let none : restOf z front ≡ [] = rest-none z (block-some w) front (ap (λ (m : ℕ). m % B) size ∙ mul-mod-left k B) in
     λ i. record {
       w = w;
       n = n;
       total = sym size i;
-      chain = chain i;
+      chain = after-take z (block-some w) (opening z n) s k le i;
       held = ap heldOf (sym none) i;
       split = notBegun;
     }

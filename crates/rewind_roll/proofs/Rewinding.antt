@@ -12,20 +12,14 @@ use Rattle.record.proofs.InTurn.{answered-accepted}
 use Rattle.checkpoints.specs.Roll.{isRoll, checkpoints, rollAnswer}
 use Rattle.checkpoints.specs.Checkpoints.{unlinked}
 use Rattle.checkpoints.proofs.Form.{roll-of}
-use Rattle.checkpoints.proofs.InTurn.{roll-passed, roll-changed, roll-stays}
+use Rattle.checkpoints.proofs.InTurn.{roll-passed, roll-changed}
 use Rattle.checkpoints.proofs.Shown.{cut-is}
 use Rattle.rewind_roll.specs.RewindRoll.{cutRoll}
 
-module _ (w : ℕ) (o : Outcome) (roll : List ℕ) where
-  -- a refused call
-  pub roll-kept : (o .number ≡ 0 → ⊥) → roll ≡ cutRoll w o roll
-  unfolding cutRoll
-  roll-kept refused = sym (roll-stays o _ roll refused)
-
-  -- an accepted one: the code takes off the links after as many as the order has checkpoints
-  pub roll-cut : o .number ≡ 0 → unlinked (sizeOf w) (checkpoints w (o .next .total)) roll ≡ cutRoll w o roll
-  unfolding cutRoll checkpoints
-  roll-cut accepted = cut-is (sizeOf w) roll (o .next .total / blockBytes (sizeOf w)) ∙ sym (roll-changed o _ roll accepted)
+-- an accepted call: the code takes off the links after as many as the order has checkpoints
+pub roll-cut : (w : ℕ) (o : Outcome) (roll : List ℕ) → o .number ≡ 0 → unlinked (sizeOf w) (checkpoints w (o .next .total)) roll ≡ cutRoll w o roll
+unfolding cutRoll checkpoints
+roll-cut w o roll accepted = cut-is (sizeOf w) roll (o .next .total / blockBytes (sizeOf w)) ∙ sym (roll-changed o _ roll accepted)
 
 pub accepted-roll : (r : Record) (out : Bool) (roll : List ℕ) (rest : Outcome) {o : Outcome} → o ≡ answered (rollAnswer r out roll) r rest → o .number ≡ 0
     → isRoll (sizeOf (r .w)) roll ≡ true

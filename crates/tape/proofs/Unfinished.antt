@@ -13,7 +13,7 @@ use lib.Seq.{take-at, take-take, length-take-le}
 use borrow.Author.Tests.{eq-eqb, ne-eqb, eqb-true}
 use Rattle.lsh.specs.WordSize.{WordSize, isWordSize, sizeOf, blockBytes}
 use Rattle.lsh.specs.Bytes.{wordsOf}
-use Rattle.lsh.specs.Block.{Chain, forward, backwards}
+use Rattle.lsh.specs.Block.{Chain, forward, forwards, backwards}
 use Rattle.lsh.specs.Opening.{opening}
 use Rattle.lsh.specs.Padding.{blocksOf, restOf}
 use Rattle.lsh.specs.Chains.{chainAfter}
@@ -22,7 +22,7 @@ use Rattle.lsh.proofs.Block.{backward-forward}
 use Rattle.lsh.proofs.Blocks.{forwards-chain}
 use Rattle.lsh.proofs.Opening.{opening-chain}
 use Rattle.lsh.proofs.Padding.{length-rest, one-block}
-use Rattle.lsh.proofs.Chains.{after-more, after-all, after-chain, after-front}
+use Rattle.lsh.proofs.Chains.{after-more, after-all, after-chain, after-take}
 use Rattle.runs.specs.Limits.{longestBlock, isDigestLength}
 use Rattle.runs.proofs.Limits.{block-most}
 use Rattle.runs.proofs.Zeros.{filled-length}
@@ -179,14 +179,8 @@ module _ (w : ℕ) (word : isWordSize w ≡ true) (n : ℕ) (digest : isDigestLe
     second-is : S .second ≡ reached R h
     unfolding tapeSplit wholeBlocks
     second-is =
-        let p : List ℕ = take (length s - length h) s in
-        let l : length p ≡ (m - k) * B = omega (arith, length-take-le (length s - length h) s (omega arith), h-size, before) in
-        let joins : s ≡ p ++ h = sym (ap (λ (t : List ℕ). p ++ t) back ∙ take-append-drop (length s - length h) s) in
-        ap (λ (t : List ℕ). chainAfter Z O t (m - k)) joins
-        ∙ after-front Z O p h (m - k) (omega (arith, l))
-        ∙ ap (chainAfter Z O p) (sym (ap (λ (i : ℕ). i / B) l ∙ mul-div-cancel (m - k) some))
-        ∙ after-all Z O p
-        ∙ sym (reached-is w word n s 0 h on-h (zero-le, some) back)
+        after-take Z some O s (m - k) (omega (arith, before))
+        ∙ sym (reached-is w word n s 0 h on-h (zero-le, some) back ∙ ap (λ (i : ℕ). forwards Z (blocksOf Z (take i s)) O) (ap (λ (i : ℕ). length s - i) h-size ∙ before))
 
     -- with no block handed back h are the held bytes
     none-more : eqb k 0 ≡ true → restOf Z s ≡ h
