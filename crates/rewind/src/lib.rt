@@ -9,7 +9,7 @@ ghost use Rattle.lsh.specs.Opening.{opening};
 ghost use Rattle.runs.specs.Limits.{isDigestLength};
 ghost use Rattle.equal.specs.Equal.{equal};
 ghost use Rattle.record.specs.Record.{heldLength, sound};
-ghost use Rattle.rewind.specs.Rewind.{startsOffBlock, keepsTooMuch, heldDiffers, woundBack, rewindInTurn, rewindCall};
+ghost use Rattle.rewind.specs.Rewind.{startsOffBlock, keepsTooMuch, heldDiffers, cutCall, rewindInTurn, rewindCall};
 use record::Outcome;
 use record::Record;
 
@@ -70,19 +70,19 @@ fn rewind_bytes(r: Record, keep: u64, h: &[u8]) -> Outcome
     let chain = r.chain;
     let run = runs::backward(r.w, chain, h);
     let c = run.chain;
-    wound_back(r, run.count as u64, h.len() as u64, keep, c, h)
+    cut(r, run.count as u64, h.len() as u64, keep, c, h)
 }
 
 // The answer where size bytes were handed back, which lead back to the chain c over count blocks, and the first keep of the bytes s remain.
 // 9 is known only after the run, which is on copies, so a refusal has nothing to undo.
-pub fn wound_back(r: Record, count: u64, size: u64, keep: u64, c: [u64; 16], s: &[u8]) -> Outcome
+pub fn cut(r: Record, count: u64, size: u64, keep: u64, c: [u64; 16], s: &[u8]) -> Outcome
     requires { ⌜ (sound r ≡ true)
         × (count ≡ size / blockBytes (sizeOf (r .w)))
         × (size ≤ r .total)
         × (keep ≤ size)
         × (keep < blockBytes (sizeOf (r .w)))
         × (keep ≤ length (now s)) ⌝ }
-    ensures { λ o. ⌜ o ≡ woundBack r size keep c (now (s .entry)) ⌝ }
+    ensures { λ o. ⌜ o ≡ cutCall r (record { size = size; keep = keep; chain = c; bytes = now (s .entry) }) ⌝ }
 {
     let w = r.w;
     let n = r.n;

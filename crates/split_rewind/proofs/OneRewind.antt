@@ -32,11 +32,11 @@ use Rattle.record.proofs.Sound.{Sound, sounds, chain-is, chain-below}
 use Rattle.record.proofs.Begun.{OneBegun, one-begun-sound, with-sound, none-is}
 use Rattle.record.proofs.InTurn.{in-turn, accepted-in-turn}
 use Rattle.record.proofs.Strings.{filled-zero}
-use Rattle.rewind.specs.Rewind.{keepsTooMuch, heldDiffers, reached, openingDiffers, rewound, woundBack, rewindInTurn, rewindCall}
+use Rattle.rewind.specs.Rewind.{keepsTooMuch, heldDiffers, reached, Cut, openingDiffers, rewound, cutCall, rewindInTurn, rewindCall}
 use Rattle.rewind.proofs.Lengths.{OnBlock, starts-on, keeps-few}
 use Rattle.split_rewind.specs.Begin.{begun, beginCall}
 use Rattle.split_rewind.specs.HandBack.{noBlock, handedBack, handBackCall}
-use Rattle.split_rewind.specs.End.{handed, lastBytes, endInTurn, endCall}
+use Rattle.split_rewind.specs.End.{handed, lastBytes, endCut, endInTurn, endCall}
 use Rattle.split_rewind.specs.Abandon.{abandonCall}
 use Rattle.split_rewind.specs.OneRewind.{afterBlocks, BlocksAccepted, afterSteps, StepsAccepted, answeredOn, joined}
 use Rattle.split_rewind.proofs.Lengths.{a-block, blocks-on}
@@ -156,54 +156,46 @@ module _ (r : Record) (arrays : Arrays r) (ok : sound r ≡ true) (idle : isBegu
     abbrev size : ℕ
     size = length h
 
-    abbrev accepts : Record → List ℕ → Outcome
-    accepts q t = record { number = 0; count = size / B; next = rewound q size keep c t }
+    abbrev cut : List ℕ → Cut
+    cut t = record { size = size; keep = keep; chain = c; bytes = t }
 
-    same-bytes : keep ≤ size → keep < B → accepts y (lastBytes y) ≡ accepts r h
+    same-bytes : keep ≤ size → keep < B → rewound y (cut (lastBytes y)) ≡ rewound r (cut h)
     unfolding rewound withSplit
     same-bytes le lt =
-        ap (λ (t : List ℕ). accepts-with t) (had .first keep le lt)
-      where
-        accepts-with : List ℕ → Outcome
-        accepts-with t =
-            record {
-              number = 0;
-              count = size / B;
-              next = record { w = r .w; n = r .n; total = r .total - size + keep; chain = c; held = heldOf t; split = notBegun };
-            }
+        ap (λ (t : List ℕ). record { w = r .w; n = r .n; total = r .total - size + keep; chain = c; held = heldOf t; split = notBegun }) (had .first keep le lt)
 
-    pub wound : keep ≤ size → keep < B → woundBack y size keep c (lastBytes y) ≡ answeredOn y (woundBack r size keep c h)
-    unfolding woundBack openingDiffers withSplit answeredOn refused
-    wound le lt = go (openingDiffers r size c) (same-bytes le lt)
+    pub same-cut : keep ≤ size → keep < B → cutCall y (cut (lastBytes y)) ≡ answeredOn y (cutCall r (cut h))
+    unfolding cutCall openingDiffers withSplit answeredOn refused
+    same-cut le lt = go (openingDiffers r (cut h)) (same-bytes le lt)
       where
-        go : (t : Bool) → accepts y (lastBytes y) ≡ accepts r h → cond t (refused 9 y) (accepts y (lastBytes y)) ≡ answeredOn y (cond t (refused 9 r) (accepts r h))
+        accepts : Record → Outcome
+        accepts q = record { number = 0; count = size / B; next = q }
+
+        go : (t : Bool) → rewound y (cut (lastBytes y)) ≡ rewound r (cut h)
+            → cond t (refused 9 y) (accepts (rewound y (cut (lastBytes y)))) ≡ answeredOn y (cond t (refused 9 r) (accepts (rewound r (cut h))))
         go true same = refl
-        go false same = same
+        go false same = ap accepts same
 
-    ended : cond (keepsTooMuch B keep size) (refused 7 y) (woundBack y size keep c (lastBytes y))
-        ≡ answeredOn y (cond (keepsTooMuch B keep size) (refused 7 r) (woundBack r size keep c h))
+    ended : cond (keepsTooMuch B keep size) (refused 7 y) (cutCall y (cut (lastBytes y)))
+        ≡ answeredOn y (cond (keepsTooMuch B keep size) (refused 7 r) (cutCall r (cut h)))
     unfolding answeredOn refused
     ended = go (keepsTooMuch B keep size) refl
       where
         go : (t : Bool) → keepsTooMuch B keep size ≡ t
-            → cond t (refused 7 y) (woundBack y size keep c (lastBytes y)) ≡ answeredOn y (cond t (refused 7 r) (woundBack r size keep c h))
+            → cond t (refused 7 y) (cutCall y (cut (lastBytes y))) ≡ answeredOn y (cond t (refused 7 r) (cutCall r (cut h)))
         go true e = refl
-        go false e = let few = keeps-few B keep size e in wound (few .0) (few .1)
+        go false e = let few = keeps-few B keep size e in same-cut (few .0) (few .1)
 
     -- the two calls
-    handed-is : handed y ≡ size
-    unfolding handed withSplit
-    handed-is = sym (had .size)
+    pub end-cut-is : endCut y keep ≡ cut (lastBytes y)
+    unfolding endCut handed withSplit
+    end-cut-is = ap₂ (λ (k : ℕ) (t : List ℕ). record { size = k; keep = keep; chain = t; bytes = lastBytes y }) (sym (had .size)) (had .second)
 
-    pub wound-is : woundBack y (handed y) keep (y .split .second) (lastBytes y) ≡ woundBack y size keep c (lastBytes y)
-    unfolding withSplit
-    wound-is = ap₂ (λ (k : ℕ) (t : List ℕ). woundBack y k keep t (lastBytes y)) handed-is (had .second)
+    end-is : endInTurn y keep ≡ cond (keepsTooMuch B keep size) (refused 7 y) (cutCall y (cut (lastBytes y)))
+    unfolding endInTurn endCut withSplit
+    end-is = ap (λ (q : Cut). cond (keepsTooMuch B keep (q .size)) (refused 7 y) (cutCall y q)) end-cut-is
 
-    end-is : endInTurn y keep ≡ cond (keepsTooMuch B keep size) (refused 7 y) (woundBack y size keep c (lastBytes y))
-    unfolding endInTurn withSplit
-    end-is = ap₂ (λ (k : ℕ) (o : Outcome). cond (keepsTooMuch B keep k) (refused 7 y) o) handed-is wound-is
-
-    rewind-is : rewindCall r keep h ≡ cond (keepsTooMuch B keep size) (refused 7 r) (woundBack r size keep c h)
+    rewind-is : rewindCall r keep h ≡ cond (keepsTooMuch B keep size) (refused 7 r) (cutCall r (cut h))
     unfolding rewindCall rewindInTurn heldDiffers
     rewind-is =
         let on : OnBlock B (r .total) size = subst (OnBlock B (r .total)) (sym (had .size)) (blocks-on B (r .total) (s .blocks) (had .one .upTo)) in

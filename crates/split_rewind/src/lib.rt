@@ -5,7 +5,7 @@ ghost use mathlib.Core.Bool.{true, false};
 ghost use lib.ListN.{length};
 ghost use Rattle.lsh.specs.WordSize.{sizeOf, blockBytes};
 ghost use Rattle.record.specs.Record.{sound, isBegun};
-ghost use Rattle.rewind.specs.Rewind.{keepsTooMuch, woundBack};
+ghost use Rattle.rewind.specs.Rewind.{keepsTooMuch, cutCall};
 ghost use Rattle.split_rewind.specs.Begin.{beginCall};
 ghost use Rattle.split_rewind.specs.HandBack.{noBlock, handedBack, handBackCall};
 ghost use Rattle.split_rewind.specs.End.{handed, lastBytes, endInTurn, endCall};
@@ -116,7 +116,7 @@ fn handed(r: Record) -> u64
 // Where the lengths are right: the bytes that remain are those of the block handed back last, or of the held part if none was.
 fn remaining(r: Record, size: u64, keep: u64) -> Outcome
     requires { ⌜ (sound r ≡ true) × (isBegun r ≡ true) × (size ≡ handed r) × (keepsTooMuch (blockBytes (sizeOf (r .w))) keep size ≡ false) ⌝ }
-    ensures { λ o. ⌜ o ≡ woundBack r size keep (r .split .second) (lastBytes r) ⌝ }
+    ensures { λ o. ⌜ o ≡ cutCall r (record { size = size; keep = keep; chain = r .split .second; bytes = lastBytes r }) ⌝ }
 {
     let held = r.held;
     let s = r.split;
@@ -125,10 +125,10 @@ fn remaining(r: Record, size: u64, keep: u64) -> Outcome
     let blocks = s.blocks;
     if blocks == 0 {
         let at = record::held_length(r.w, r.total);
-        return rewind::wound_back(r, blocks, size, keep, second, &held[..at]);
+        return rewind::cut(r, blocks, size, keep, second, &held[..at]);
     }
     let b = runs::block_bytes(r.w);
-    rewind::wound_back(r, blocks, size, keep, second, &back[..b])
+    rewind::cut(r, blocks, size, keep, second, &back[..b])
 }
 
 // The record before the rewind began.

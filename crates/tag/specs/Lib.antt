@@ -3,4 +3,3 @@ pub mod Tag
 pub mod Start
 pub mod Finish
 pub mod Check
-pub mod Pieces

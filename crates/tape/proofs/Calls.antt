@@ -26,7 +26,7 @@ use Rattle.rewind.specs.Rewind.{startsOffBlock, keepsTooMuch, heldDiffers, rewi
 use Rattle.rewind.proofs.Lengths.{OnBlock, on-block, keeps-few}
 use Rattle.split_rewind.specs.Begin.{begun, beginCall}
 use Rattle.split_rewind.specs.HandBack.{noBlock, handBackCall}
-use Rattle.split_rewind.specs.End.{handed, endInTurn, endCall}
+use Rattle.split_rewind.specs.End.{handed, endCut, endInTurn, endCall}
 use Rattle.split_rewind.specs.Abandon.{abandonCall}
 use Rattle.split_rewind.proofs.Lengths.{a-block}
 use Rattle.checkpoints.specs.Roll.{isRollOf, rollAnswer}
@@ -241,7 +241,7 @@ module _ (w : ℕ) (word : isWordSize w ≡ true) (n : ℕ) (digest : isDigestLe
 
       end-rest : (lent : Lent) (roll : List ℕ) → RollShows lent w n s roll → (keep : ℕ)
           → Follows (Shows lent w n) (given (endInTurn (Y k) keep) (rollAfter lent w roll (endInTurn (Y k) keep))) (tapeEnd w (tape true k) keep)
-      unfolding endInTurn handed tapeEnd tapeHanded tapeCut becomes plain keepsTooMuch withSplit recordOf tapeSplit
+      unfolding endInTurn endCut handed tapeEnd tapeHanded tapeCut becomes plain keepsTooMuch withSplit recordOf tapeSplit
       end-rest lent roll shows keep =
           let size = tapeHanded w (tape true k) in
           let i = length s - size + keep in

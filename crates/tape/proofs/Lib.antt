@@ -1,4 +1,4 @@
--- Demand 3.
+-- Demand 3, and what is said of several calls.
 pub mod Simulation
 pub mod Records
 pub mod OneCall
@@ -10,5 +10,10 @@ pub mod First
 pub mod Corrected
 pub mod TakenUp
 pub mod OneRewind
+pub mod Messages
+pub mod Written
+pub mod Finished
+pub mod Pieces
+pub mod AnyMark
 pub mod Receipts
 pub mod Tags

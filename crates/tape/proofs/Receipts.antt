@@ -16,8 +16,8 @@ use Rattle.split_rewind.specs.OneRewind.{afterSteps, StepsAccepted}
 use Rattle.split_rewind.proofs.OneRewind.{begin-is, x-sound, as-before}
 use Rattle.whole.specs.Whole.{wholeAnswer, wholeOutput}
 use Rattle.close.specs.Close.{closeAnswer, closeOutput}
-use Rattle.close.proofs.Messages.{same-answer, same-output}
-use Rattle.close.proofs.Unfinished.{same-answer-unfinished, same-output-unfinished}
+use Rattle.tape.proofs.Messages.{close-answer, close-output}
+use Rattle.tape.proofs.AnyMark.{same-answer-unfinished, same-output-unfinished}
 use Rattle.tape.specs.Tape.{Lent, Tape}
 use Rattle.tape.specs.TapeRecord.{tapeSplit, tapeRecord}
 use Rattle.tape.specs.Calls.{Call}
@@ -32,14 +32,14 @@ tape-receipt : (w n : ℕ) (t : Tape) → isWordSize w ≡ true → isDigestLeng
     → (closeAnswer (tapeRecord w n t) last e (length output) ≡ wholeAnswer w n (length (t .bytes)) last e (length output))
     × (closeOutput (tapeRecord w n t) last e output ≡ wholeOutput w n (t .bytes) last e output)
 unfolding tapeRecord
-tape-receipt w n t word digest kept last e output =
+tape-receipt w n t word digest good last e output =
     let m : List ℕ = t .bytes in
     let s : Split = cond (t .begun) (tapeSplit w n m (t .number)) notBegun in
-    let sounds : (sound (recordOf w n m) ≡ true) × (sound (withSplit (recordOf w n m) s) ≡ true) = both-sound w n t word digest kept in (
+    let sounds : (sound (recordOf w n m) ≡ true) × (sound (withSplit (recordOf w n m) s) ≡ true) = both-sound w n t word digest good in (
       same-answer-unfinished (recordOf w n m) s (sounds .0) (sounds .1) last e (length output)
-          ∙ same-answer w n m word last e digest (kept .bytes .few) (length output),
+          ∙ close-answer w n m word last e digest (good .bytes .few) (length output),
       same-output-unfinished (recordOf w n m) s (sounds .0) (sounds .1) last e output
-          ∙ same-output w n m word last e digest (kept .bytes .few) (kept .bytes .bytes) output,
+          ∙ close-output w n m word last e digest (good .bytes .few) (good .bytes .bytes) output,
     )
 
 -- the buyer's sentence: after the calls, finished or not

@@ -28,7 +28,7 @@ use Rattle.record.specs.Record.{sound, heldOf, recordOf}
 use Rattle.record.proofs.Strings.{held-record, record-sound}
 use Rattle.append.specs.Append.{appendAccepted}
 use Rattle.append.proofs.Joins.{append-record}
-use Rattle.rewind.specs.Rewind.{heldDiffers, reached, openingDiffers, rewound, woundBack}
+use Rattle.rewind.specs.Rewind.{heldDiffers, reached, Cut, openingDiffers, rewound, cutCall}
 use Rattle.rewind.proofs.Lengths.{OnBlock, same-fill}
 use Rattle.tape.specs.Tape.{wholeBlocks}
 use Rattle.lsh.proofs.Splitting.{blocks-split, rest-split, blocks-kept, rest-kept}
@@ -107,15 +107,19 @@ module _ (w : ℕ) (word : isWordSize w ≡ true) where
       reached-opening none =
           reached-is ∙ ap (λ (k : ℕ). forwards Z (blocksOf Z (take k s)) O) none ∙ ap (λ (bs : List (List ℕ)). forwards Z bs O) (blocks-short Z some [] some)
 
-      opening-same : openingDiffers (recordOf w n s) (length h) (reached (recordOf w n s) h) ≡ false
+      -- what it cuts off
+      abbrev cut : Cut
+      cut = record { size = length h; keep = keep; chain = reached (recordOf w n s) h; bytes = h }
+
+      opening-same : openingDiffers (recordOf w n s) cut ≡ false
       unfolding openingDiffers recordOf
       opening-same = go (eqb (length s - length h) 0) refl
         where
-          go : (t : Bool) → eqb (length s - length h) 0 ≡ t → openingDiffers (recordOf w n s) (length h) (reached (recordOf w n s) h) ≡ false
+          go : (t : Bool) → eqb (length s - length h) 0 ≡ t → openingDiffers (recordOf w n s) cut ≡ false
           go true e = rw (e, reached-opening (eqb-true (length s - length h) 0 e), equal-self O)
           go false e = rw e
 
-      rewind-next : rewound (recordOf w n s) (length h) keep (reached (recordOf w n s) h) h ≡ recordOf w n (take (length s - length h + keep) s)
+      rewind-next : rewound (recordOf w n s) cut ≡ recordOf w n (take (length s - length h + keep) s)
       unfolding rewound recordOf
       rewind-next = λ i. record {
         w = w;
@@ -127,9 +131,9 @@ module _ (w : ℕ) (word : isWordSize w ≡ true) where
       }
 
       -- the answer where the tests before 9 are passed
-      pub cut-next : _≡_ {A = Outcome} (woundBack (recordOf w n s) (length h) keep (reached (recordOf w n s) h) h)
+      pub cut-next : _≡_ {A = Outcome} (cutCall (recordOf w n s) cut)
           (record { number = 0; count = length h / B; next = recordOf w n (take (length s - length h + keep) s) })
-      unfolding woundBack recordOf
+      unfolding cutCall recordOf
       cut-next = rw (opening-same, rewind-next)
 
     module _ (digest : isDigestLength w n ≡ true) (s : List ℕ) (short : WithinLimit s) where

@@ -18,8 +18,8 @@ use Rattle.tag.specs.Start.{startCall}
 use Rattle.tag.specs.Finish.{finishAnswer, finishOutput}
 use Rattle.tag.proofs.Answers.{Keyed}
 use Rattle.tag.proofs.Started.{start-accepted, keyed-message}
-use Rattle.tag.proofs.Finished.{same-answer, same-output}
-use Rattle.tag.proofs.Unfinished.{finish-answer-unfinished, finish-output-unfinished}
+use Rattle.tape.proofs.Finished.{finish-answer, finish-output}
+use Rattle.tape.proofs.AnyMark.{finish-answer-unfinished, finish-output-unfinished}
 use Rattle.tape.specs.Tape.{Lent, Tape}
 use Rattle.tape.specs.TapeRecord.{tapeSplit, tapeRecord}
 use Rattle.tape.specs.Calls.{Call}
@@ -69,9 +69,9 @@ module _ (w n : ℕ) (key : List ℕ) (lent : Lent) (cs : List Call) (accepted :
           ap (λ (r : Record). finishAnswer r (length key) (length output)) remains
               ∙ finish-answer-unfinished (recordOf w n (T .bytes)) split (sounds .0) (sounds .1) (length key) (length output)
               ∙ ap (λ (s : List ℕ). finishAnswer (recordOf w n s) (length key) (length output)) after
-              ∙ same-answer w n key m keyed (length output),
+              ∙ finish-answer w n key m keyed (length output),
           ap (λ (r : Record). finishOutput r key output) remains
               ∙ finish-output-unfinished (recordOf w n (T .bytes)) split (sounds .0) (sounds .1) key output
               ∙ ap (λ (s : List ℕ). finishOutput (recordOf w n s) key output) after
-              ∙ same-output w n key m keyed message-bytes output,
+              ∙ finish-output w n key m keyed message-bytes output,
         )

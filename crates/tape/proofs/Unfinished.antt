@@ -40,14 +40,14 @@ use Rattle.record.proofs.Lists.{all-zero}
 use Rattle.record.proofs.Sound.{chain-below}
 use Rattle.record.proofs.Begun.{one-begun-sound, with-sound}
 use Rattle.record.proofs.Strings.{held-record, record-idle, filled-zero}
-use Rattle.rewind.specs.Rewind.{keepsTooMuch, reached, woundBack}
+use Rattle.rewind.specs.Rewind.{keepsTooMuch, reached, cutCall}
 use Rattle.rewind.proofs.Lengths.{OnBlock, keeps-few}
 use Rattle.split_rewind.specs.Begin.{begun}
 use Rattle.split_rewind.specs.HandBack.{handedBack}
-use Rattle.split_rewind.specs.End.{handed, lastBytes, endInTurn}
+use Rattle.split_rewind.specs.End.{lastBytes, endCut}
 use Rattle.split_rewind.specs.OneRewind.{answeredOn}
 use Rattle.split_rewind.proofs.Lengths.{before-is, blocks-on}
-use Rattle.split_rewind.proofs.OneRewind.{Handed, wound-is, wound}
+use Rattle.split_rewind.proofs.OneRewind.{Handed, end-cut-is, same-cut}
 use Rattle.tape.specs.Tape.{wholeBlocks}
 use Rattle.tape.specs.TapeRecord.{blockAfter, handedLast, tapeSplit}
 use Rattle.tape.proofs.Records.{WithinLimit, sound-is, reached-is, last-bytes, cut-next}
@@ -230,13 +230,13 @@ module _ (w : ℕ) (word : isWordSize w ≡ true) (n : ℕ) (digest : isDigestLe
 
     -- the end where the tests before 9 are passed: the record of what remains
     pub end-cut : (keep : ℕ) → keepsTooMuch B keep size ≡ false
-        → _≡_ {A = Outcome} (woundBack Y (handed Y) keep (Y .split .second) (lastBytes Y)) (record { number = 0; count = size / B; next = recordOf w n (take (length s - size + keep) s) })
-    unfolding recordOf answeredOn endInTurn
+        → _≡_ {A = Outcome} (cutCall Y (endCut Y keep)) (record { number = 0; count = size / B; next = recordOf w n (take (length s - size + keep) s) })
+    unfolding recordOf answeredOn
     end-cut keep few =
         let most : (keep ≤ size) × (keep < B) = keeps-few B keep size few in
         let some-h : keep ≤ length h = omega (arith, h-size, most .0) in
-        wound-is R arrays ok idle h S handed-is keep
-        ∙ wound R arrays ok idle h S handed-is keep some-h (most .1)
+        ap (cutCall Y) (end-cut-is R arrays ok idle h S handed-is keep)
+        ∙ same-cut R arrays ok idle h S handed-is keep some-h (most .1)
         ∙ ap (answeredOn Y) (cut-next w word n s keep h on-h (some-h, most .1) back)
         ∙ ap (λ (i : ℕ). record { number = 0; count = i / B; next = recordOf w n (take (length s - i + keep) s) }) h-size
 

@@ -55,7 +55,7 @@ rewind-bytes-spec =
     (λ c.
     let z = c .before .before .before .before .before .before .before in
     let e = c .before .before .before .before in
-    c .wound-back .ensures
+    c .cut .ensures
     ∙ rw (
       c .before .before .backward .ensures .0,
       z .pre .1,

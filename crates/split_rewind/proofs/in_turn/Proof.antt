@@ -3,7 +3,7 @@ use mathlib.Core.Path.{_≡_, sym, ap, _∙_}
 use borrow.Author.Needs.{needs}
 use Rattle.lsh.specs.WordSize.{sizeOf, blockBytes}
 use Rattle.rewind.specs.Rewind.{keepsTooMuch}
-use Rattle.split_rewind.specs.End.{handed, endInTurn}
+use Rattle.split_rewind.specs.End.{handed, endCut, endInTurn}
 use Rattle.split_rewind.proofs.in_turn.Statement.{statement}
 use Rattle.split_rewind.proofs.in_turn.Tie as tie
 
@@ -15,7 +15,7 @@ test-is c =
     c .keeps-too-much .ensures ∙ ap (keepsTooMuch (blockBytes (sizeOf (z .args .r .w))) (z .args .keep)) (c .before .handed .ensures)
 
 pub in-turn-spec : {M : Type 1} → statement M
-unfolding endInTurn
+unfolding endInTurn endCut
 in-turn-spec =
     tie.close
     (tie.spec

@@ -1,4 +1,4 @@
--- `rewind::wound_back` meets its contract. Assumes nothing.
+-- `rewind::cut` meets its contract. Assumes nothing.
 use mathlib.Core.Path.{sym, _∙_}
 use lib.Seq.{length-take-le}
 use native.Mathlib.Omega.{arith}
@@ -6,13 +6,13 @@ use borrow.Author.Needs.{needs}
 use Rattle.runs.specs.Limits.{limit}
 use Rattle.runs.proofs.Limits.{block-most}
 use Rattle.record.proofs.Sound.{sounds}
-use Rattle.rewind.specs.Rewind.{openingDiffers, rewound, woundBack}
-use Rattle.rewind.proofs.wound_back.Statement.{statement}
-use Rattle.rewind.proofs.wound_back.Tie as tie
+use Rattle.rewind.specs.Rewind.{openingDiffers, rewound, cutCall}
+use Rattle.rewind.proofs.cut.Statement.{statement}
+use Rattle.rewind.proofs.cut.Tie as tie
 
-pub wound-back-spec : {M : Type 1} → statement M
-unfolding woundBack openingDiffers rewound limit
-wound-back-spec =
+pub cut-spec : {M : Type 1} → statement M
+unfolding cutCall openingDiffers rewound limit
+cut-spec =
     tie.close
     (tie.spec
     (λ c. search needs)

@@ -20,13 +20,13 @@ use Rattle.record.specs.Record.{sound, recordOf}
 use Rattle.record.proofs.Strings.{record-sound}
 use Rattle.finalization.specs.Ending.{messageBits}
 use Rattle.close.specs.Close.{closedDigest}
-use Rattle.close.proofs.Messages.{closed-digest}
+use Rattle.tape.proofs.Messages.{closed-digest}
 use Rattle.hmac.specs.Hmac.{hashBytes, innerKey, tagOf, hmac}
 use Rattle.hmac.proofs.Keys.{inner-length, inner-bytes}
 use Rattle.tag.specs.KeyAnswer.{isWholeBytes, tagBytes, keyAnswer}
 use Rattle.tag.specs.Tag.{tagAnswer, tagOutput}
 use Rattle.tag.specs.Finish.{finishAnswer, finishOutput}
 use Rattle.tag.proofs.Answers.{Keyed}
 
 -- the digest that a record of bytes gives without extra bits
 inner-digest : (w n : ℕ) (m : List ℕ) → isWordSize w ≡ true → Bytes m → bytesOfBits (closedDigest (recordOf w n m) 0 0) ≡ hashBytes w n m
@@ -47,12 +47,12 @@ module _ (w n : ℕ) (key m : List ℕ) (ok : Keyed w n (length key) (length m))
       record-sound w n (innerKey w n key ++ m) (ok .wordSize) (ok .digestLength)
       (omega (arith, length-append (innerKey w n key) m, inner-length w n (ok .wordSize) (ok .digestLength) (ok .bytewise) key, ok .within))
 
-  pub same-answer : (size : ℕ) → finishAnswer R (length key) size ≡ tagAnswer w n (length key) (length m) size
+  pub finish-answer : (size : ℕ) → finishAnswer R (length key) size ≡ tagAnswer w n (length key) (length m) size
   unfolding finishAnswer tagAnswer isWholeBytes recordOf first
-  same-answer size = rw (record-taken, eq-eqb (n % 8) 0 (ok .bytewise), le-ltb limit _ (ok .short), no-refusal)
+  finish-answer size = rw (record-taken, eq-eqb (n % 8) 0 (ok .bytewise), le-ltb limit _ (ok .short), no-refusal)
 
-  pub same-output : Bytes m → (output : List ℕ) → finishOutput R key output ≡ tagOutput w n key m output
+  pub finish-output : Bytes m → (output : List ℕ) → finishOutput R key output ≡ tagOutput w n key m output
   unfolding finishOutput tagOutput hmac recordOf
-  same-output bytes output =
-      ap₂ (λ (a : ℕ) (d : List ℕ). written a (tagBytes n) (tagOf w n key d) output) (same-answer (length output))
+  finish-output bytes output =
+      ap₂ (λ (a : ℕ) (d : List ℕ). written a (tagBytes n) (tagOf w n key d) output) (finish-answer (length output))
       (inner-digest w n (innerKey w n key ++ m) (ok .wordSize) (bytes-append (innerKey w n key) m (inner-bytes w n key) bytes))

@@ -1,19 +1,31 @@
--- The finish does not depend on how far a split rewind is.
+-- Close and the finish of a tag do not depend on how far a split rewind is.
 -- Assumes nothing.
 use mathlib.Core.Path.{_≡_, ap}
 use mathlib.Core.Bool.{true}
 use mathlib.Core.List.{List}
-use Prim.Native.Nat.{ℕ}
+use Prim.Native.Nat.{ℕ, _+_, _*_}
 use lib.ListN.{length}
-use Rattle.lsh.specs.Bits.{bytesOfBits}
 use Rattle.answers.specs.Output.{written}
 use Rattle.record.specs.declared.Record.{Record}
 use Rattle.record.specs.declared.Split.{Split}
 use Rattle.record.specs.Record.{sound, heldBytes, withSplit}
-use Rattle.close.specs.Close.{closedDigest}
+use Rattle.finalization.specs.Receipt.{receiptBytes, receipt}
+use Rattle.close.specs.Close.{closeAnswer, closedDigest, closeOutput}
+use Rattle.lsh.specs.Bits.{bytesOfBits}
 use Rattle.hmac.specs.Hmac.{tagOf}
 use Rattle.tag.specs.KeyAnswer.{tagBytes}
 use Rattle.tag.specs.Finish.{finishAnswer, finishOutput}
+
+module _ (r : Record) (s : Split) (ok : sound r ≡ true) (still : sound (withSplit r s) ≡ true) (last e : ℕ) where
+  pub same-answer-unfinished : (size : ℕ) → closeAnswer (withSplit r s) last e size ≡ closeAnswer r last e size
+  unfolding closeAnswer
+  same-answer-unfinished size = rw (ok, still)
+
+  pub same-output-unfinished : (output : List ℕ) → closeOutput (withSplit r s) last e output ≡ closeOutput r last e output
+  unfolding closeOutput closedDigest heldBytes withSplit
+  same-output-unfinished output =
+      ap (λ (a : ℕ). written a receiptBytes (receipt (r .w) (r .n) (closedDigest r last e) (8 * r .total + e)) output)
+      (same-answer-unfinished (length output))
 
 module _ (r : Record) (s : Split) (ok : sound r ≡ true) (still : sound (withSplit r s) ≡ true) where
   pub finish-answer-unfinished : (keyLength size : ℕ) → finishAnswer (withSplit r s) keyLength size ≡ finishAnswer r keyLength size

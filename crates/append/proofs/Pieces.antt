@@ -1,4 +1,4 @@
--- With one key at both, the tag of a list of pieces is that of their joining: of the accepted ones, if some were refused.
+-- Pieces appended one after the other, refused ones included, are the accepted ones joined.
 -- Assumes nothing.
 use mathlib.Core.Path.{_≡_, refl, sym, ap, _∙_, subst}
 use mathlib.Core.Bool.{Bool, true, false, cond}
@@ -15,23 +15,16 @@ use Rattle.runs.specs.Limits.{isDigestLength, limit}
 use Rattle.record.specs.declared.Record.{Record}
 use Rattle.record.specs.declared.Outcome.{Outcome}
 use Rattle.record.specs.Record.{recordOf, refused}
 use Rattle.append.specs.Append.{appendAccepted, appendCall}
 use Rattle.append.proofs.Joins.{append-record, append-over, append-within}
-use Rattle.hmac.specs.Hmac.{innerKey}
-use Rattle.tag.specs.Tag.{tagAnswer, tagOutput}
-use Rattle.tag.specs.Start.{startCall}
-use Rattle.tag.specs.Finish.{finishAnswer, finishOutput}
-use Rattle.tag.specs.Pieces.{afterPieces, acceptedBytes}
-use Rattle.tag.proofs.Answers.{Keyed}
-use Rattle.tag.proofs.Started.{start-accepted, started-record, started-length, keyed-message}
-use Rattle.tag.proofs.Finished.{same-answer, same-output}
+use Rattle.append.specs.Pieces.{afterPieces, acceptedBytes}
 
 module _ (w n : ℕ) (word : isWordSize w ≡ true) (digest : isDigestLength w n ≡ true) where
   -- the record of the bytes m and of the accepted pieces after them, which are bytes within the limit
-  record Joined (m : List ℕ) (r : Record) (s : List ℕ) : Type 0 where
-    is : r ≡ recordOf w n (m ++ s)
-    few : length m + length s ≤ limit
-    bytes : Bytes s
+  pub record Joined (m : List ℕ) (r : Record) (s : List ℕ) : Type 0 where
+    pub is : r ≡ recordOf w n (m ++ s)
+    pub few : length m + length s ≤ limit
+    pub bytes : Bytes s
 
   -- one more piece before the others
   with-first : (m : List ℕ) (p : ByteString) {r : Record} {s : List ℕ} → Joined (m ++ p .list) r s → Joined m r (p .list ++ s)
@@ -61,34 +54,6 @@ module _ (w n : ℕ) (word : isWordSize w ≡ true) (digest : isDigestLength w n
           (subst (λ (r : Record). Joined m (afterPieces r ps) (p .list ++ acceptedBytes r ps)) (sym (append-record w n m (p .list) word))
           (with-first m p (rest (m ++ p .list) (omega (arith, length-append m (p .list))))))
 
-  joined : (ps : List ByteString) (m : List ℕ) → length m ≤ limit → After ps m
+  pub joined : (ps : List ByteString) (m : List ℕ) → length m ≤ limit → After ps m
   joined [] m few = record { is = ap (recordOf w n) (sym (append-nil m)); few = omega arith; bytes = λ i. omega arith }
   joined (p ∷ ps) m few = after-first p ps (joined ps) m few
-
--- the theorem
-module _ (w n : ℕ) (key : List ℕ) (accepted : startCall w n key .number ≡ 0) (ps : List ByteString) where
-  abbrev started : Record
-  started = startCall w n key .next
-
-  abbrev message : List ℕ
-  message = acceptedBytes started ps
-
-  ok : Keyed w n (length key) 0
-  ok = start-accepted w n key accepted
-
-  all : Joined w n (ok .wordSize) (ok .digestLength) (innerKey w n key) (afterPieces started ps) message
-  all =
-      subst (λ (r : Record). Joined w n (ok .wordSize) (ok .digestLength) (innerKey w n key) (afterPieces r ps) (acceptedBytes r ps))
-      (sym (started-record w n key accepted))
-      (joined w n (ok .wordSize) (ok .digestLength) ps (innerKey w n key) (omega (arith, started-length w n key accepted, ok .within)))
-
-  keyed : Keyed w n (length key) (length message)
-  keyed = keyed-message w n key accepted message (omega (arith, length-append (innerKey w n key) message, all .few))
-
-  pub tag-of-pieces : (output : List ℕ)
-      → (finishAnswer (afterPieces started ps) (length key) (length output) ≡ tagAnswer w n (length key) (length message) (length output))
-      × (finishOutput (afterPieces started ps) key output ≡ tagOutput w n key message output)
-  tag-of-pieces output = (
-    ap (λ (r : Record). finishAnswer r (length key) (length output)) (all .is) ∙ same-answer w n key message keyed (length output),
-    ap (λ (r : Record). finishOutput r key output) (all .is) ∙ same-output w n key message keyed (all .bytes) output,
-  )

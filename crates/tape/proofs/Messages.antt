@@ -79,14 +79,14 @@ module _ (w n : ℕ) (m : List ℕ) (word : isWordSize w ≡ true) (last e : ℕ
         ∙ ap (λ (s : List ℕ). forwards Z (blocksOf Z s) (opening Z n)) (sym whole-message))
 
   module _ (digestLength : isDigestLength w n ≡ true) (within : length m ≤ limit) where
-    pub same-answer : (size : ℕ) → closeAnswer R last e size ≡ wholeAnswer w n (length m) last e size
+    pub close-answer : (size : ℕ) → closeAnswer R last e size ≡ wholeAnswer w n (length m) last e size
     unfolding closeAnswer wholeAnswer
-    same-answer size = rw (record-sound w n m word digestLength within, word, digestLength, le-ltb limit (length m) within)
+    close-answer size = rw (record-sound w n m word digestLength within, word, digestLength, le-ltb limit (length m) within)
 
-    pub same-output : Bytes m → (output : List ℕ) → closeOutput R last e output ≡ wholeOutput w n m last e output
+    pub close-output : Bytes m → (output : List ℕ) → closeOutput R last e output ≡ wholeOutput w n m last e output
     unfolding closeOutput wholeOutput recordOf
-    same-output bytes output =
-        ap (λ (a : ℕ). written a receiptBytes (receipt w n (closedDigest R last e) (8 * length m + e)) output) (same-answer (length output))
+    close-output bytes output =
+        ap (λ (a : ℕ). written a receiptBytes (receipt w n (closedDigest R last e) (8 * length m + e)) output) (close-answer (length output))
         ∙ same-written (wholeAnswer w n (length m) last e (length output)) receiptBytes (receipt w n (closedDigest R last e) (8 * length m + e)) output
         (λ is.
         let few : e ≤ 7 = accepted w n (length m) last e (length output) is .end .extra in
