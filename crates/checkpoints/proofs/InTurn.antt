@@ -1,10 +1,10 @@
--- What the first tests of a call with a roll say of it, and what they answer in turn and out of turn.
+-- What the first tests of a call with a roll say of it, and what they answer in turn and out of turn; and the roll after a call, by its answer.
 -- Assumes nothing.
 use mathlib.Core.Path.{_≡_, refl, sym, ap, _∙_}
 use mathlib.Core.Bool.{Bool, true, false, not, cond}
 use mathlib.Core.List.{List, [], _∷_}
 use Prim.Native.Nat.{ℕ}
-use borrow.Author.Tests.{not-false}
+use borrow.Author.Tests.{not-false, eq-eqb, ne-eqb}
 use Rattle.answers.specs.First.{first}
 use Rattle.answers.proofs.Tests.{test, passed}
 use Rattle.answers.proofs.First.{both-passed}
@@ -14,6 +14,7 @@ use Rattle.record.specs.Record.{sound, refused}
 use Rattle.record.specs.Turn.{turnAnswer, answered}
 use Rattle.record.proofs.InTurn.{answered-refused, answered-rest, turn-passed}
 use Rattle.checkpoints.specs.Roll.{isRollOf, rollAnswer}
+use Rattle.checkpoints.specs.Checkpoints.{ifAccepted}
 
 module _ (r : Record) (out : Bool) (s : List ℕ) where
   pub roll-passed : rollAnswer r out s ≡ 0 → (sound r ≡ true) × (out ≡ false) × (isRollOf r s ≡ true)
@@ -42,3 +43,12 @@ module _ (r : Record) {out : Bool} (s : List ℕ) (rest : Outcome) {a : ℕ} {b 
 
   pub roll-rest : a ≡ 0 → rest ≡ answered (rollAnswer r out s) r rest
   roll-rest none = answered-rest (rollAnswer r out s) r rest (sym same-turn ∙ none)
+
+module _ (o : Outcome) (changed roll : List ℕ) where
+  pub roll-changed : o .number ≡ 0 → ifAccepted o changed roll ≡ changed
+  unfolding ifAccepted
+  roll-changed accepted = rw (eq-eqb (o .number) 0 accepted)
+
+  pub roll-stays : (o .number ≡ 0 → ⊥) → ifAccepted o changed roll ≡ roll
+  unfolding ifAccepted
+  roll-stays refused = rw (ne-eqb (o .number) 0 refused)

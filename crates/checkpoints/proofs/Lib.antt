@@ -1,4 +1,5 @@
 -- Laws of rolls.
+pub mod Due
 pub mod Members
 pub mod Ways
 pub mod Places

@@ -12,8 +12,10 @@ use Rattle.lsh.specs.WordSize.{WordSize, blockBytes}
 use Rattle.lsh.specs.Bytes.{wordsOf}
 use Rattle.lsh.specs.Block.{forward, backward, forwards, backwards}
 use Rattle.lsh.specs.Padding.{firstBlocks, blocksOf}
-use Rattle.lsh.proofs.Blocks.{forwards-append, backwards-append}
+use Rattle.lsh.specs.Chains.{chainAfter}
+use Rattle.lsh.proofs.Blocks.{backwards-append}
 use Rattle.lsh.proofs.Padding.{blockAt, firstBlocks-more}
+use Rattle.lsh.proofs.Chains.{after-more, after-all}
 
 -- the part of s that the code lends for block k, from place k * B to k * B + B
 abbrev pub part : WordSize → List ℕ → ℕ → List ℕ
@@ -34,31 +36,27 @@ part-block z s k =
 -- count blocks of n are run
 pub record RunForward (z : WordSize) (n : ℕ) (s t c : List ℕ) (count : ℕ) : Type 0 where
   pub upTo : count ≤ n
-  pub chain : c ≡ forwards z (firstBlocks z count s) t
+  pub chain : c ≡ chainAfter z t s count
 
 pub run-forward-none : (z : WordSize) (n : ℕ) (s t : List ℕ) → RunForward z n s t t 0
-unfolding firstBlocks forwards
+unfolding chainAfter firstBlocks forwards
 run-forward-none z n s t = record { upTo = zero-le; chain = refl }
 
 pub run-forward-more : {z : WordSize} {n : ℕ} {s t c : List ℕ} {count : ℕ} (u : List ℕ) → RunForward z n s t c count → count < n
     → u ≡ forward z (wordsOf z 32 (part z s count)) c → RunForward z n s t u (count + 1)
-unfolding forwards
 run-forward-more {z} {n} {s} {t} {c} {count} u h lt e =
     record {
       upTo = omega arith;
       chain =
           e ∙ ap₂ (forward z) (part-block z s count) (h .chain)
-          ∙ sym (ap (λ (k : ℕ). forwards z (firstBlocks z k s) t) (add-one count)
-          ∙ ap (λ (bs : List (List ℕ)). forwards z bs t) (firstBlocks-more z count s)
-          ∙ forwards-append z (firstBlocks z count s) (blockAt z s count ∷ []) t);
+          ∙ sym (ap (chainAfter z t s) (add-one count) ∙ after-more z t s count);
     }
 
 pub run-forward-all : {z : WordSize} {s t c : List ℕ} {count : ℕ} → RunForward z (length s / blockBytes z) s t c count
     → length s / blockBytes z ≤ count → (c ≡ forwards z (blocksOf z s) t) × (count ≡ length s / blockBytes z)
-unfolding blocksOf
 run-forward-all {z} {s} {t} {c} {count} h le =
     let all : count ≡ length s / blockBytes z = le-antisymm (h .upTo) le in
-    (h .chain ∙ ap (λ (k : ℕ). forwards z (firstBlocks z k s) t) all, all)
+    (h .chain ∙ ap (chainAfter z t s) all ∙ after-all z t s, all)
 
 -- count blocks of n are run from the last, and left are left
 pub record RunBackward (z : WordSize) (n : ℕ) (s t c : List ℕ) (count left : ℕ) : Type 0 where

@@ -3,9 +3,8 @@
 use mathlib.Core.Path.{_≡_, sym, ap, _∙_}
 use mathlib.Core.Bool.{Bool, true}
 use mathlib.Core.List.{List}
-use Prim.Native.Nat.{ℕ}
-use borrow.Author.Tests.{eq-eqb, ne-eqb}
-use Rattle.lsh.specs.WordSize.{sizeOf}
+use Prim.Native.Nat.{ℕ, _/_}
+use Rattle.lsh.specs.WordSize.{sizeOf, blockBytes}
 use Rattle.record.specs.declared.Record.{Record}
 use Rattle.record.specs.declared.Outcome.{Outcome}
 use Rattle.record.specs.Turn.{answered}
@@ -13,19 +12,14 @@ use Rattle.record.proofs.InTurn.{answered-accepted}
 use Rattle.checkpoints.specs.Roll.{isRoll, checkpoints, rollAnswer}
 use Rattle.checkpoints.specs.Checkpoints.{unlinked}
 use Rattle.checkpoints.proofs.Form.{roll-of}
-use Rattle.checkpoints.proofs.InTurn.{roll-passed}
+use Rattle.checkpoints.proofs.InTurn.{roll-passed, roll-changed}
+use Rattle.checkpoints.proofs.Shown.{cut-is}
 use Rattle.rewind_roll.specs.RewindRoll.{cutRoll}
 
-module _ (w : ℕ) (o : Outcome) (roll : List ℕ) where
-  -- a refused call
-  pub roll-stays : (o .number ≡ 0 → ⊥) → roll ≡ cutRoll w o roll
-  unfolding cutRoll
-  roll-stays ne = rw (ne-eqb (o .number) 0 ne)
-
-  -- an accepted one
-  pub roll-cut : o .number ≡ 0 → unlinked (sizeOf w) (checkpoints w (o .next .total)) roll ≡ cutRoll w o roll
-  unfolding cutRoll
-  roll-cut accepted = rw (eq-eqb (o .number) 0 accepted)
+-- an accepted call: the code takes off the links after as many as the order has checkpoints
+pub roll-cut : (w : ℕ) (o : Outcome) (roll : List ℕ) → o .number ≡ 0 → unlinked (sizeOf w) (checkpoints w (o .next .total)) roll ≡ cutRoll w o roll
+unfolding cutRoll checkpoints
+roll-cut w o roll accepted = cut-is (sizeOf w) roll (o .next .total / blockBytes (sizeOf w)) ∙ sym (roll-changed o _ roll accepted)
 
 pub accepted-roll : (r : Record) (out : Bool) (roll : List ℕ) (rest : Outcome) {o : Outcome} → o ≡ answered (rollAnswer r out roll) r rest → o .number ≡ 0
     → isRoll (sizeOf (r .w)) roll ≡ true

@@ -78,10 +78,10 @@ pub fn checkpoints(w: u64, total: u64) -> u64
     total / runs::block_bytes(w) as u64 / SPACING
 }
 
-// Lays a checkpoint with the chain t in a slot that is not linked, behind the last link. Returns what is known of the roll then.
+// Lays a checkpoint with the chain t in a slot that is not linked, behind the last link; its number is not written. Returns what is known of the roll then.
 pub fn lay(w: u64, y: Way, roll: &mut [u8], t: [u64; 16]) -> Way
     requires { ⌜ (isWordSize w ≡ true) × Chain (sizeOf w) t × (isRoll (sizeOf w) (now roll) ≡ true) × (y ≡ wayOf (sizeOf w) (now roll)) × (y .count < y .slots) ⌝ }
-    ensures { λ x. ⌜ (now (roll .exit) ≡ laid (sizeOf w) t (now (roll .entry))) × (x ≡ wayOf (sizeOf w) (now (roll .exit))) ⌝ }
+    ensures { λ x. ⌜ ((k : ℕ) → now (roll .exit) ≡ laid (sizeOf w) (record { number = k; chain = t }) (now (roll .entry))) × (x ≡ wayOf (sizeOf w) (now (roll .exit))) ⌝ }
 {
     let slots = y.slots;
     let last = y.last;

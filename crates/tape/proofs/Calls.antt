@@ -30,6 +30,7 @@ use Rattle.split_rewind.specs.End.{handed, endCut, endInTurn, endCall}
 use Rattle.split_rewind.specs.Abandon.{abandonCall}
 use Rattle.split_rewind.proofs.Lengths.{a-block}
 use Rattle.checkpoints.specs.Roll.{isRollOf, rollAnswer}
+use Rattle.checkpoints.specs.Checkpoints.{ifAccepted}
 use Rattle.checkpoints.proofs.InTurn.{roll-in-turn, roll-out-of-turn}
 use Rattle.append_roll.specs.AppendRoll.{appendRollAnswer, appendRollCall, appendedRoll}
 use Rattle.rewind_roll.specs.RewindRoll.{rewindRollCall, cutRoll, rewoundRoll}
@@ -66,7 +67,7 @@ HasRoll (WithRoll size) x roll = isRollOf x roll ≡ true
 
 module _ (x : Record) (ok : sound x ≡ true) (roll : List ℕ) where
   cutting-out : (lent : Lent) {out : Bool} (rest : Outcome) → out ≡ true → cutting lent x roll out rest ≡ given (refused 17 x) roll
-  unfolding cutRoll answered refused
+  unfolding cutRoll ifAccepted answered refused
   cutting-out NoRoll rest wrong = ap (λ (o : Outcome). given o roll) (out-of-turn x ok rest wrong)
   cutting-out (WithRoll size) {out} rest wrong =
       ap (λ (a : ℕ). given (answered a x rest) (cutRoll (x .w) (answered a x rest) roll)) (roll-out-of-turn x out roll ok wrong)
@@ -81,7 +82,7 @@ module _ (x : Record) (ok : sound x ≡ true) (roll : List ℕ) where
 
   append-out : (lent : Lent) (p : List ℕ) → isBegun x ≡ true
       → byLent lent (given (appendCall x p) roll) (given (appendRollCall x p roll) (appendedRoll x p roll)) ≡ given (refused 17 x) roll
-  unfolding appendCall appendRollCall appendedRoll appendRollAnswer first answered
+  unfolding appendCall appendRollCall appendedRoll ifAccepted appendRollAnswer first answered refused
   append-out NoRoll p begun = ap (λ (o : Outcome). given o roll) (out-of-turn x ok _ begun)
   append-out (WithRoll size) p begun = rw (roll-out-of-turn x (isBegun x) roll ok begun)
 
@@ -132,7 +133,7 @@ module _ (w : ℕ) (word : isWordSize w ≡ true) (n : ℕ) (digest : isDigestLe
     -- the roll after a cut of the order, by what is lent
     cut-roll : (lent : Lent) (roll : List ℕ) → RollShows lent w n s roll → (count i : ℕ) (x : Record) → x ≡ recordOf w n (take i s)
         → RollShows lent w n (take i s) (rollAfter lent w roll (record { number = 0; count = count; next = x }))
-    unfolding cutRoll recordOf
+    unfolding cutRoll ifAccepted recordOf wholeBlocks
     cut-roll NoRoll roll none count i x of = none
     cut-roll (WithRoll size) roll shows count i x of =
         subst (λ (r : Record). TapeRoll w n (size .slots) (take i s) (cutRoll w (record { number = 0; count = count; next = r }) roll)) (sym of)
@@ -140,7 +141,7 @@ module _ (w : ℕ) (word : isWordSize w ≡ true) (n : ℕ) (digest : isDigestLe
 
     -- a refused call leaves it
     same-roll : (lent : Lent) (roll : List ℕ) (number : ℕ) (x : Record) → eqb number 0 ≡ false → rollAfter lent w roll (refused number x) ≡ roll
-    unfolding cutRoll refused
+    unfolding cutRoll ifAccepted refused
     same-roll NoRoll roll number x some = refl
     same-roll (WithRoll size) roll number x some = rw some
 
@@ -157,7 +158,7 @@ module _ (w : ℕ) (word : isWordSize w ≡ true) (n : ℕ) (digest : isDigestLe
     -- Append where none is begun
     append-plain : (lent : Lent) (roll : List ℕ) → RollShows lent w n s roll → (k : ℕ) (p : List ℕ)
         → Follows (Shows lent w n) (byLent lent (given (appendCall R p) roll) (given (appendRollCall R p roll) (appendedRoll R p roll))) (tapeAppend w lent (tape false k) p)
-    unfolding appendCall appendRollCall appendedRoll appendRollAnswer inTurn turnAnswer first answered tapeAppend plain recordOf
+    unfolding appendCall appendRollCall appendedRoll ifAccepted appendAccepted appendRollAnswer inTurn turnAnswer first answered refused tapeAppend plain recordOf
     append-plain NoRoll roll shows k p =
         rw (ok, idle)
         (choose (λ (o : Outcome). given o roll) (ltb limit (length s + length p)) (λ over. refuses NoRoll (tape false k) roll shows 5 (plain-record s k) refl)
@@ -173,7 +174,7 @@ module _ (w : ℕ) (word : isWordSize w ≡ true) (n : ℕ) (digest : isDigestLe
         (laid-shows w word n s size roll shows p room))))
       where
         by-number : ℕ → Given Order
-        by-number a = given (cond (eqb a 0) (appendAccepted R p) (refused a R)) (cond (eqb a 0) (laidRoll w word n s size roll shows p) roll)
+        by-number a = let o = cond (eqb a 0) (appendAccepted R p) (refused a R) in given o (ifAccepted o (laidRoll w word n s size roll shows p) roll)
 
     -- Rewind where none is begun
     rewind-rest : (lent : Lent) (roll : List ℕ) → RollShows lent w n s roll → (k keep : ℕ) (h : List ℕ)

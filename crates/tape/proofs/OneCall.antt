@@ -5,7 +5,7 @@ use mathlib.Core.Path.{_≡_, refl, ap, _∙_}
 use mathlib.Core.Bool.{Bool, true, false, not, cond, false≢true}
 use mathlib.Core.List.{List, _++_}
 use Prim.Native.Nat.{ℕ, _+_, _-_, _*_, _/_, _%_, _≤_, _<_, zero-le}
-use native.Mathlib.Nat.{div-add-mod', mul-add-div-right, div-eq-of-lt}
+use native.Mathlib.Nat.{mul-add-div-right, div-eq-of-lt}
 use native.Mathlib.Omega.{arith}
 use lib.Dec.{eqb, ltb}
 use lib.ListN.{length, take, length-append}
@@ -19,6 +19,7 @@ use Rattle.rewind.specs.Rewind.{startsOffBlock, keepsTooMuch}
 use Rattle.rewind.proofs.Lengths.{OnBlock, on-block, keeps-few, total-is}
 use Rattle.split_rewind.specs.HandBack.{noBlock}
 use Rattle.split_rewind.proofs.Lengths.{a-block, blocks-on}
+use Rattle.checkpoints.proofs.Spacing.{no-fewer-blocks}
 use Rattle.tape.specs.Sequence.{Given}
 use Rattle.tape.specs.Tape.{Lent, NoRoll, WithRoll, Tape, plain, unfinished, wholeBlocks, tooManyBlocks, stays, becomes, tapeAppend, tapeCut, tapeRewind, tapeBegin, tapeHandBack, tapeHanded, tapeEnd, tapeAbandon}
 use Rattle.tape.specs.Calls.{Call, Append, Rewind, Begin, HandBack, End, Abandon, tapeCall, forwardCount, backwardCount}
@@ -59,9 +60,7 @@ module _ (w : ℕ) (lent : Lent) (t : Tape) (good : SoundTape w t) where
   -- the count of an Append takes the whole blocks from what they were to what they are
   append-counted : (p : List ℕ) → wholeBlocks w (s ++ p) - wholeBlocks w s + wholeBlocks w s ≡ 0 + wholeBlocks w (s ++ p)
   unfolding wholeBlocks
-  append-counted p =
-      let more : length (s ++ p) ≡ length s / B * B + (length s % B + length p) = omega (arith, length-append s p, div-add-mod' (length s) B) in
-      omega (arith, ap (λ (k : ℕ). k / B) more ∙ mul-add-div-right (block-some w) (length s / B) (length s % B + length p))
+  append-counted p = omega (arith, no-fewer-blocks w (length s) (length (s ++ p)) (omega (arith, length-append s p)))
 
   -- and that of a Rewind, or of the end of a split one, takes them back
   cut-counted : (size keep : ℕ) → OnBlock B (length s) size → (keep ≤ size) × (keep < B)

@@ -5,15 +5,14 @@ use mathlib.Core.Bool.{Bool, true, false, not, cond}
 use mathlib.Core.List.{List}
 use Prim.Native.Nat.{ℕ}
 use lib.Dec.{eqb}
-use Rattle.lsh.specs.WordSize.{sizeOf}
 use Rattle.record.specs.declared.Record.{Record}
 use Rattle.record.specs.declared.Outcome.{Outcome}
 use Rattle.record.specs.Record.{isBegun, withSplit, refused}
 use Rattle.record.specs.Turn.{answered}
 use Rattle.record.specs.Arrays.{Arrays}
 use Rattle.record.proofs.InTurn.{in-turn}
-use Rattle.checkpoints.specs.Roll.{checkpoints, isRollOf}
-use Rattle.checkpoints.specs.Checkpoints.{unlinked}
+use Rattle.checkpoints.specs.Roll.{isRollOf}
+use Rattle.checkpoints.specs.Checkpoints.{ifAccepted}
 use Rattle.checkpoints.proofs.InTurn.{roll-in-turn}
 use Rattle.rewind.specs.Rewind.{rewindInTurn, rewindCall}
 use Rattle.split_rewind.specs.End.{endInTurn, endCall}
@@ -25,12 +24,10 @@ use Rattle.tape.specs.AsOneRewind.{AsOneRewind}
 
 -- a roll is cut by the number and the new total alone
 cut-answered : (w : ℕ) (x : Record) (o : Outcome) (roll : List ℕ) → cutRoll w (answeredOn x o) roll ≡ cutRoll w o roll
-unfolding cutRoll answeredOn refused
+unfolding cutRoll ifAccepted answeredOn refused
 cut-answered w x o roll = go (eqb (o .number) 0) refl
   where
-    go : (t : Bool) → eqb (o .number) 0 ≡ t
-        → cond (eqb (cond t o (refused (o .number) x) .number) 0) (unlinked (sizeOf w) (checkpoints w (cond t o (refused (o .number) x) .next .total)) roll) roll
-        ≡ cond (eqb (o .number) 0) (unlinked (sizeOf w) (checkpoints w (o .next .total)) roll) roll
+    go : (t : Bool) → eqb (o .number) 0 ≡ t → cutRoll w (cond t o (refused (o .number) x)) roll ≡ cutRoll w o roll
     go true e = refl
     go false e = rw e
 

@@ -9,8 +9,8 @@ use lib.Dec.{eqb, ltb, leb}
 use lib.ListN.{length, take}
 use Rattle.lsh.specs.WordSize.{sizeOf, blockBytes}
 use Rattle.runs.specs.Limits.{limit}
+use Rattle.checkpoints.specs.Due.{spacing}
 use Rattle.checkpoints.specs.Slots.{mostSlots}
-use Rattle.checkpoints.specs.Roll.{spacing}
 use Rattle.tape.specs.Sequence.{Given}
 
 -- a number of slots that a roll can have

@@ -6,9 +6,8 @@ use Prim.Native.Nat.{ℕ, _-_, _*_}
 use lib.Dec.{eqb}
 use lib.ListN.{take, drop}
 use Rattle.lsh.specs.WordSize.{sizeOf, blockBytes}
-use Rattle.lsh.specs.Block.{forwards}
 use Rattle.lsh.specs.Opening.{opening}
-use Rattle.lsh.specs.Padding.{firstBlocks}
+use Rattle.lsh.specs.Chains.{chainAfter}
 use Rattle.record.specs.declared.Record.{Record}
 use Rattle.record.specs.declared.Split.{Split}
 use Rattle.record.specs.Split.{notBegun}
@@ -29,7 +28,7 @@ unfoldable pub tapeSplit : ℕ → ℕ → List ℕ → ℕ → Split
 tapeSplit w n s k =
     record {
       mark = 1;
-      second = forwards (sizeOf w) (firstBlocks (sizeOf w) (wholeBlocks w s - k) s) (opening (sizeOf w) n);
+      second = chainAfter (sizeOf w) (opening (sizeOf w) n) s (wholeBlocks w s - k);
       back = heldOf (handedLast w s k);
       blocks = k;
     }
