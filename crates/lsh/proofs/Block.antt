@@ -5,7 +5,7 @@ use mathlib.Core.Path.{_≡_, refl, ap, _∙_}
 use mathlib.Core.List.{List}
 use Prim.Native.Nat.{ℕ, zero, suc}
 use Rattle.lsh.specs.WordSize.{WordSize}
-use Rattle.lsh.specs.Step.{addMessage, step, unstep}
+use Rattle.lsh.specs.Step.{addMessage, step}
 use Rattle.lsh.specs.Expansion.{subMessage}
 use Rattle.lsh.specs.Block.{Chain, steps, unsteps, forwardSteps, backwardSteps}
 use Rattle.lsh.proofs.Figures.{Amounts}
