@@ -16,11 +16,11 @@ use Rattle.lsh.proofs.Padding.{blocks-short, rest-short}
 use Rattle.lsh.proofs.Splitting.{forwards-split, rest-split}
 use Rattle.runs.specs.Limits.{longestBlock}
 use Rattle.runs.proofs.Limits.{block-most}
-use Rattle.runs.proofs.Zeros.{drop-replicate}
+use Rattle.buffers.proofs.Zeros.{drop-replicate}
 use Rattle.record.specs.declared.Record.{Record}
 use Rattle.record.specs.declared.Outcome.{Outcome}
 use Rattle.record.specs.Record.{heldOf, heldLength, sound, heldBytes}
-use Rattle.record.proofs.Lists.{zero-all}
+use Rattle.buffers.proofs.Lists.{zero-all}
 use Rattle.record.proofs.Sound.{sounds}
 use Rattle.record.proofs.Held.{fill-lt, held-length}
 use Rattle.append.specs.Append.{appended, appendAccepted}

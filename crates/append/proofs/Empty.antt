@@ -19,7 +19,7 @@ use Rattle.record.specs.declared.Outcome.{Outcome}
 use Rattle.record.specs.Record.{heldOf, heldLength, heldBytes, sound, isBegun}
 use Rattle.record.specs.Arrays.{Arrays}
 use Rattle.record.proofs.Held.{fill-lt, held-length}
-use Rattle.record.proofs.Lists.{zero-all}
+use Rattle.buffers.proofs.Lists.{zero-all}
 use Rattle.record.proofs.Sound.{Sound, sounds}
 use Rattle.record.proofs.InTurn.{in-turn}
 use Rattle.append.specs.Append.{appended, appendAccepted, appendCall}

@@ -6,6 +6,7 @@ use mathlib.Core.List.{List, _++_}
 use Prim.Native.Nat.{ℕ, _+_, _≤_}
 use native.Mathlib.Nat.{le-of-eq}
 use lib.ListN.{length}
+use Rattle.buffers.proofs.Lists.{filled-zero}
 use Rattle.lsh.specs.WordSize.{WordSize, sizeOf}
 use Rattle.lsh.specs.Block.{Chain}
 use Rattle.lsh.specs.Padding.{blocksOf, restOf}
@@ -16,7 +17,6 @@ use Rattle.record.specs.declared.Record.{Record}
 use Rattle.record.specs.Record.{heldOf, heldBytes, sound, isBegun}
 use Rattle.record.proofs.Sound.{Sound, sounds, is-sound, chain-is, chain-below}
 use Rattle.record.proofs.Begun.{none-sound}
-use Rattle.record.proofs.Strings.{filled-zero}
 use Rattle.append.specs.Append.{appended}
 use Rattle.append.proofs.Held.{rest-length}
 

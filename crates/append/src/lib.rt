@@ -78,7 +78,7 @@ fn append_short(mut r: Record, piece: &[u8]) -> Outcome
 {
     let held = r.held;
     let at = record::held_length(r.w, r.total);
-    let joined = record::put(held, at, piece);
+    let joined = runs::with_part(held, at, piece);
     r.total += piece.len() as u64;
     r.held = joined;
     Outcome {
@@ -99,7 +99,7 @@ fn append_long(mut r: Record, piece: &[u8]) -> Outcome
     let size = runs::block_bytes(w);
     let at = record::held_length(w, r.total);
     let room = size - at;
-    let first = record::put(held, at, &piece[..room]);
+    let first = runs::with_part(held, at, &piece[..room]);
     let begun = runs::forward(w, chain, &first[..size]);
     let filled = begun.chain;
     let t = absorb(w, filled, &piece[room..]);
@@ -126,7 +126,7 @@ fn absorb(w: u64, chain: [u64; 16], piece: &[u8]) -> Absorbed
     let c = run.chain;
     let count = run.count;
     let at = count * runs::block_bytes(w);
-    let held = record::hold(&piece[at..]);
+    let held = runs::zero_filled(&piece[at..]);
     Absorbed {
         chain: c,
         count: count as u64,

@@ -16,5 +16,5 @@ pub fn put_number(output: &mut [u8], from: usize, x: u64) -> usize
 {
     let mut number = [0u8; DIGITS];
     let k = io::decimal(x, &mut number);
-    text::put(output, from, &number[..k])
+    buffers::put(output, from, &number[..k])
 }

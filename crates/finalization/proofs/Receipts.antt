@@ -21,8 +21,8 @@ use Rattle.lsh.proofs.Tabulate.{length-tabulate, at-tabulate}
 use Rattle.lsh.proofs.Bytes.{octets}
 use Rattle.message.proofs.Digest.{digest-bytes}
 use Rattle.runs.specs.Limits.{longestDigest}
-use Rattle.runs.specs.ZeroFilled.{zeroFilled}
-use Rattle.runs.proofs.Zeros.{filled-length}
+use Rattle.buffers.specs.ZeroFilled.{zeroFilled}
+use Rattle.buffers.proofs.Zeros.{filled-length}
 use Rattle.finalization.specs.Receipt.{receiptBytes, digestPlace, lengthPlace, receipt}
 use Rattle.finalization.proofs.FinalBytes.{length-final, final-bytes}
 

@@ -6,7 +6,7 @@ use Prim.Native.Nat.{ℕ, _/_, _%_}
 use Rattle.lsh.specs.Tabulate.{tabulate}
 use Rattle.lsh.specs.Bytes.{byteAt}
 use Rattle.lsh.specs.Bits.{bytesOfBits}
-use Rattle.runs.specs.ZeroFilled.{zeroFilled}
+use Rattle.buffers.specs.ZeroFilled.{zeroFilled}
 
 -- the bytes of a receipt
 unfoldable pub receiptBytes : ℕ

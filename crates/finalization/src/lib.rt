@@ -89,11 +89,8 @@ fn last_block(rest: &[u8], pad: u8) -> [u8; LONGEST_BLOCK]
     requires { ⌜ length (now rest) < longestBlock ⌝ }
     ensures { λ r. ⌜ r ≡ now (rest .entry) ++ pad ∷ replicate (longestBlock - 1 - length (now (rest .entry))) 0 ⌝ }
 {
-    let mut b = runs::zero_bytes();
+    let mut b = runs::zero_filled(rest);
     let n = rest.len();
-    for i in 0..n {
-        b[i] = rest[i];
-    }
     b[n] = pad;
     b
 }
@@ -106,11 +103,11 @@ pub fn write_receipt(w: u64, n: u64, t: [u64; 16], bits: u64, output: &mut [u8])
     let size = ((n + 7) / 8) as usize;
     let bytes = digest_bytes(w, n, t);
     let end = RECEIPT;
-    text::fill(&mut output[..end], 0);
+    buffers::fill(&mut output[..end], 0);
     output[0] = w as u8;
     output[2] = (n % 256) as u8;
     output[3] = (n / 256) as u8;
-    text::put(output, DIGEST, &bytes[..size]);
+    buffers::put(output, DIGEST, &bytes[..size]);
     word64::store(output, LENGTH, bits);
 }
 

@@ -21,10 +21,9 @@ use Rattle.lsh.proofs.Word.{xor-lt}
 use Rattle.lsh.proofs.Tabulate.{length-tabulate, at-tabulate, tabulate-ext, tabulate-all}
 use Rattle.lsh.specs.ByteString.{Bytes}
 use Rattle.runs.specs.Limits.{longestBlock, isDigestLength}
-use Rattle.runs.specs.ZeroFilled.{zeroFilled}
+use Rattle.buffers.specs.ZeroFilled.{zeroFilled}
 use Rattle.runs.proofs.Limits.{block-most, digest-most}
-use Rattle.runs.proofs.Zeros.{take-replicate, filled-length}
-use Rattle.record.specs.Record.{heldOf}
+use Rattle.buffers.proofs.Zeros.{take-replicate, filled-length}
 use Rattle.hmac.specs.Hmac.{hashBytes, innerByte, keyBlock, xorEach, innerKey}
 use Rattle.hmac.proofs.Digests.{digestOn, hash-after, length-hash}
 
@@ -60,10 +59,9 @@ take-filled k n s short le =
 
 -- by w, in arrays as long as the longest block: zeros after a string, and a block that stands at the front, changed
 module _ (w : ℕ) where
-  pub held-front : (s : List ℕ) {r : List ℕ} → r ≡ heldOf s → length s ≤ blockBytes (sizeOf w)
+  pub filled-front : (s : List ℕ) {r : List ℕ} → r ≡ zeroFilled longestBlock s → length s ≤ blockBytes (sizeOf w)
       → take (blockBytes (sizeOf w)) r ≡ zeroFilled (blockBytes (sizeOf w)) s
-  unfolding heldOf
-  held-front s is short = ap (take (blockBytes (sizeOf w))) is ∙ take-filled (blockBytes (sizeOf w)) longestBlock s short (block-most w)
+  filled-front s is short = ap (take (blockBytes (sizeOf w))) is ∙ take-filled (blockBytes (sizeOf w)) longestBlock s short (block-most w)
 
   pub xored-front : (x : ℕ) (b : List ℕ) → length b ≡ longestBlock → {k : ℕ} {r : List ℕ} → k ≡ blockBytes (sizeOf w) → r ≡ xorEach x b
       → take k r ≡ xorEach x (take (blockBytes (sizeOf w)) b)

@@ -10,7 +10,7 @@ use Rattle.lsh.specs.Word.{xor}
 use Rattle.lsh.specs.WordSize.{sizeOf, blockBytes}
 use Rattle.lsh.specs.Bits.{bitsOf, bytesOfBits}
 use Rattle.lsh.specs.Hash.{lsh}
-use Rattle.runs.specs.ZeroFilled.{zeroFilled}
+use Rattle.buffers.specs.ZeroFilled.{zeroFilled}
 
 -- H
 unfoldable pub hashBytes : ℕ → ℕ → List ℕ → List ℕ

@@ -50,9 +50,9 @@ pub fn key_block(w: u64, n: u64, opened: [u64; 16], key: &[u8]) -> [u8; LONGEST_
     if runs::block_bytes(w) < key.len() {
         let size = (n / 8) as usize;
         let d = digest_on(w, n, opened, key);
-        return record::hold(&d[..size]);
+        return runs::zero_filled(&d[..size]);
     }
-    record::hold(key)
+    runs::zero_filled(key)
 }
 
 // Each byte exclusive or the byte x.

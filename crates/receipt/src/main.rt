@@ -537,7 +537,7 @@ fn read_file(name: &[u8], opened: Record) -> Reading {
 
 // The descriptor of a file, or -1, which is said. A dash names standard input.
 fn open_file(name: &[u8]) -> i32 {
-    if equal::equal_bytes(name, b"-") {
+    if buffers::equal_bytes(name, b"-") {
         return STDIN_FILENO;
     }
     let fd = os::open_read(name);

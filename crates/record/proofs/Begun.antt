@@ -10,13 +10,13 @@ use borrow.Author.Tests.{eqb-true, eq-eqb, leb-true, le-leb}
 use Rattle.lsh.specs.WordSize.{sizeOf, blockBytes}
 use Rattle.lsh.proofs.Tests.{and-true}
 use Rattle.runs.specs.Limits.{longestBlock}
-use Rattle.equal.specs.Equal.{equal}
+use Rattle.buffers.specs.Equal.{equal}
 use Rattle.record.specs.declared.Record.{Record}
 use Rattle.record.specs.declared.Split.{Split}
-use Rattle.record.specs.Lists.{allBelow, allZero}
+use Rattle.buffers.specs.Lists.{allBelow, allZero}
 use Rattle.record.specs.Split.{notBegun, noneBegun, oneBegun, splitSound}
 use Rattle.record.specs.Record.{sound, isBegun, withSplit}
-use Rattle.record.proofs.Lists.{all-zero, zero-all}
+use Rattle.buffers.proofs.Lists.{all-zero, zero-all}
 use Rattle.record.proofs.Sound.{Sound, sounds, is-sound}
 
 -- by the mark

@@ -1,5 +1,4 @@
 -- Laws of the record.
-pub mod Lists
 pub mod Sound
 pub mod Begun
 pub mod Held

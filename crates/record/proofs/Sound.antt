@@ -14,11 +14,11 @@ use Rattle.lsh.specs.Block.{Chain}
 use Rattle.lsh.proofs.Figures.{by-size, bits-are}
 use Rattle.runs.specs.Limits.{isDigestLength, limit}
 use Rattle.record.specs.declared.Record.{Record}
-use Rattle.record.specs.Lists.{allBelow, allZero}
+use Rattle.buffers.specs.Lists.{allBelow, allZero}
 use Rattle.record.specs.Split.{splitSound}
 use Rattle.record.specs.Record.{sound}
 use Rattle.lsh.proofs.Tests.{and-true}
-use Rattle.record.proofs.Lists.{at-below, all-below}
+use Rattle.buffers.proofs.Lists.{at-below, all-below}
 
 pub record Sound (r : Record) : Type 0 where
   pub word : isWordSize (r .w) ≡ true

@@ -4,12 +4,11 @@
 use mathlib.Core.Path.{_≡_, refl, sym, ap, _∙_}
 use mathlib.Core.Bool.{true, false}
 use mathlib.Core.List.{List, []}
-use Prim.Native.Nat.{ℕ, _+_, _-_, _*_, _/_, _%_, _^_, _≤_}
-use native.Mathlib.Nat.{zero-mul, zero-div, mul-div-cancel, mul-mod-left, le-of-eq}
-use native.Mathlib.Omega.{arith}
+use Prim.Native.Nat.{ℕ, _-_, _*_, _%_, _^_, _≤_}
+use native.Mathlib.Nat.{zero-mul, zero-div, mul-mod-left, le-of-eq}
 use borrow.Author.Tests.{le-leb}
-use lib.ListN.{length, take, drop, replicate, take-append-drop}
-use lib.Seq.{length-take-le, take-at, drop-append-add}
+use lib.ListN.{length, take, replicate}
+use lib.Seq.{length-take-le, take-at}
 use Rattle.lsh.specs.WordSize.{WordSize, isWordSize, sizeOf, blockBytes}
 use Rattle.lsh.specs.Block.{Chain, forwards}
 use Rattle.lsh.specs.Opening.{opening}
@@ -21,24 +20,13 @@ use Rattle.lsh.proofs.Opening.{opening-chain}
 use Rattle.lsh.proofs.Padding.{length-rest, rest-none}
 use Rattle.lsh.proofs.Chains.{after-take}
 use Rattle.runs.specs.Limits.{longestBlock, isDigestLength, limit}
-use Rattle.runs.specs.ZeroFilled.{zeroFilled}
-use Rattle.runs.proofs.Zeros.{drop-replicate}
-use Rattle.record.specs.Lists.{allBelow, allZero}
+use Rattle.buffers.specs.Lists.{allBelow}
 use Rattle.record.specs.Split.{notBegun}
 use Rattle.record.specs.Record.{heldOf, sound, isBegun, heldBytes, recordOf, recordAt}
 use Rattle.record.specs.Open.{opened, openCall}
-use Rattle.record.proofs.Lists.{all-zero}
+use Rattle.buffers.proofs.Lists.{filled-zero}
 use Rattle.record.proofs.Sound.{chain-below}
 use Rattle.record.proofs.Begun.{not-begun-sound}
-
--- what fills a string is 0
-pub filled-zero : (n : ℕ) (s : List ℕ) (k : ℕ) → length s ≤ k → allZero (drop k (zeroFilled n s)) ≡ true
-filled-zero n s k le =
-    let more : ℕ = k - length s in
-    let sum : k ≡ length s + more = omega (arith, le) in
-    ap (λ (i : ℕ). allZero (drop i (zeroFilled n s))) sum
-    ∙ ap allZero (drop-append-add s (replicate (n - length s) 0) more ∙ drop-replicate more (n - length s) 0)
-    ∙ all-zero (n - length s - more)
 
 module _ (w n : ℕ) (m : List ℕ) (word : isWordSize w ≡ true) where
   abbrev Z : WordSize

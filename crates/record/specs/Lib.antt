@@ -1,4 +1,3 @@
-pub mod Lists
 pub mod Split
 pub mod Record
 pub mod Arrays

@@ -10,11 +10,11 @@ use Rattle.lsh.specs.Block.{forwards}
 use Rattle.lsh.specs.Opening.{opening}
 use Rattle.lsh.specs.Padding.{blocksOf, restOf}
 use Rattle.runs.specs.Limits.{longestBlock, isDigestLength, limit}
-use Rattle.runs.specs.ZeroFilled.{zeroFilled}
+use Rattle.buffers.specs.ZeroFilled.{zeroFilled}
 use Rattle.record.specs.declared.Record.{Record}
 use Rattle.record.specs.declared.Split.{Split}
 use Rattle.record.specs.declared.Outcome.{Outcome}
-use Rattle.record.specs.Lists.{allBelow, allZero}
+use Rattle.buffers.specs.Lists.{allBelow, allZero}
 use Rattle.record.specs.Split.{notBegun, splitSound}
 
 -- the bytes s, and zeros after them, as many in all as a block has at most

@@ -8,9 +8,9 @@ use lib.Dec.{eqb, leb}
 use lib.ListN.{drop, replicate}
 use Rattle.lsh.specs.WordSize.{sizeOf, blockBytes}
 use Rattle.runs.specs.Limits.{longestBlock}
-use Rattle.equal.specs.Equal.{equal}
+use Rattle.buffers.specs.Equal.{equal}
 use Rattle.record.specs.declared.Split.{Split}
-use Rattle.record.specs.Lists.{allBelow, allZero}
+use Rattle.buffers.specs.Lists.{allBelow, allZero}
 
 -- none is begun
 unfoldable pub notBegun : Split

@@ -1,14 +1,13 @@
 // The record of an order, and the call Open.
 ghost use mathlib.Core.Path.{_≡_};
 ghost use mathlib.Core.Bool.{true};
-ghost use Prim.Native.Nat.{_+_, _^_, _≤_};
-ghost use lib.ListN.{length, drop};
-ghost use lib.Seq.{paste};
+ghost use Prim.Native.Nat.{_+_, _^_};
+ghost use lib.ListN.{length};
 ghost use Rattle.lsh.specs.WordSize.{isWordSize};
-ghost use Rattle.runs.specs.Limits.{longestBlock, isDigestLength};
-ghost use Rattle.record.specs.Lists.{allBelow, allZero};
+ghost use Rattle.runs.specs.Limits.{isDigestLength};
+ghost use Rattle.buffers.specs.Lists.{allBelow, allZero};
 ghost use Rattle.record.specs.Split.{notBegun, noneBegun, oneBegun, splitSound};
-ghost use Rattle.record.specs.Record.{heldOf, heldLength, sound, zeros, isBegun, stepped, refused};
+ghost use Rattle.record.specs.Record.{heldLength, sound, zeros, isBegun, stepped, refused};
 ghost use Rattle.record.specs.Open.{opened, openCall};
 ghost use Rattle.record.specs.Turn.{turnAnswer};
 use runs::LONGEST_BLOCK;
@@ -163,7 +162,7 @@ pub fn is_sound(r: Record) -> bool
         return false;
     }
     let at = held_length(w, total);
-    words_below(w, chain) & zero_from(&held, at) & is_split_sound(w, total, chain, split)
+    words_below(w, chain) & buffers::zero_from(&held, at) & is_split_sound(w, total, chain, split)
 }
 
 // Whether a split rewind is begun.
@@ -190,7 +189,7 @@ fn is_none_begun(s: Split) -> bool
 {
     let second = s.second;
     let back = s.back;
-    (s.mark == 0) & (s.blocks == 0) & words_zero(second) & zero_from(&back, 0)
+    (s.mark == 0) & (s.blocks == 0) & words_zero(second) & buffers::zero_from(&back, 0)
 }
 
 // Whether one is begun, in an order of this total and chain.
@@ -205,8 +204,8 @@ fn is_one_begun(w: u64, total: u64, chain: [u64; 16], s: Split) -> bool
     (s.mark == 1)
         & (blocks <= total / b as u64)
         & words_below(w, second)
-        & zero_from(&back, b)
-        & ((blocks != 0) | (equal::equal_chains(second, chain) & zero_from(&back, 0)))
+        & buffers::zero_from(&back, b)
+        & ((blocks != 0) | (buffers::equal_chains(second, chain) & buffers::zero_from(&back, 0)))
 }
 
 // How many bytes are held of an order of this total: those after its last whole block.
@@ -247,41 +246,4 @@ fn words_zero(t: [u64; 16]) -> bool
         i += 1;
     }
     zero
-}
-
-// Whether each byte from a place on is 0. There is no early end, so that the compiler tests many bytes at once.
-pub fn zero_from(s: &[u8], at: usize) -> bool
-    ensures { λ b. ⌜ b ≡ allZero (drop at (now (s .entry))) ⌝ }
-{
-    let mut zero = true;
-    let mut i = at;
-    while i < s.len() {
-        zero = zero & (s[i] == 0);
-        i += 1;
-    }
-    zero
-}
-
-// The held bytes that begin with the part, the others 0.
-pub fn hold(part: &[u8]) -> [u8; LONGEST_BLOCK]
-    requires { ⌜ length (now part) ≤ longestBlock ⌝ }
-    ensures { λ r. ⌜ r ≡ heldOf (now (part .entry)) ⌝ }
-{
-    let zeros = runs::zero_bytes();
-    put(zeros, 0, part)
-}
-
-// The held bytes with the part written from a place on.
-pub fn put(held: [u8; LONGEST_BLOCK], at: usize, part: &[u8]) -> [u8; LONGEST_BLOCK]
-    requires { ⌜ at + length (now part) ≤ longestBlock ⌝ }
-    ensures { λ r. ⌜ r ≡ paste held at (now (part .entry)) (length (now (part .entry))) ⌝ }
-{
-    let mut h = held;
-    let mut i: usize = 0;
-    while i < part.len() {
-        let place = at + i;
-        h[place] = part[i];
-        i += 1;
-    }
-    h
 }

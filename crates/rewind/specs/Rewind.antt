@@ -9,7 +9,7 @@ use Rattle.lsh.specs.WordSize.{sizeOf, blockBytes}
 use Rattle.lsh.specs.Block.{backwards}
 use Rattle.lsh.specs.Opening.{opening}
 use Rattle.lsh.specs.Padding.{blocksOf}
-use Rattle.equal.specs.Equal.{equal}
+use Rattle.buffers.specs.Equal.{equal}
 use Rattle.record.specs.declared.Record.{Record}
 use Rattle.record.specs.declared.Outcome.{Outcome}
 use Rattle.record.specs.Split.{notBegun}

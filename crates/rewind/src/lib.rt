@@ -7,7 +7,7 @@ ghost use lib.ListN.{length};
 ghost use Rattle.lsh.specs.WordSize.{isWordSize, sizeOf, blockBytes};
 ghost use Rattle.lsh.specs.Opening.{opening};
 ghost use Rattle.runs.specs.Limits.{isDigestLength};
-ghost use Rattle.equal.specs.Equal.{equal};
+ghost use Rattle.buffers.specs.Equal.{equal};
 ghost use Rattle.record.specs.Record.{heldLength, sound};
 ghost use Rattle.rewind.specs.Rewind.{startsOffBlock, keepsTooMuch, heldDiffers, cutCall, rewindInTurn, rewindCall};
 use record::Outcome;
@@ -91,7 +91,7 @@ pub fn cut(r: Record, count: u64, size: u64, keep: u64, c: [u64; 16], s: &[u8]) 
     if opening_differs(w, n, left, c) {
         return record::refused(9, r);
     }
-    let remains = record::hold(&s[..keep as usize]);
+    let remains = runs::zero_filled(&s[..keep as usize]);
     let none = record::not_begun();
     let next = Record {
         w: w,
@@ -116,7 +116,7 @@ pub fn held_differs(r: Record, h: &[u8]) -> bool
     let held = r.held;
     let at = record::held_length(r.w, r.total);
     let before = h.len() - at;
-    !equal::equal_bytes(&h[before..], &held[..at])
+    !buffers::equal_bytes(&h[before..], &held[..at])
 }
 
 // Whether nothing is left before the bytes handed back and the chain c is not the opening chain.
@@ -127,5 +127,5 @@ fn opening_differs(w: u64, n: u64, left: u64, c: [u64; 16]) -> bool
     if left != 0 {
         return false;
     }
-    !equal::equal_chains(c, runs::opening(w, n))
+    !buffers::equal_chains(c, runs::opening(w, n))
 }

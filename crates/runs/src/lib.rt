@@ -2,14 +2,16 @@
 ghost use mathlib.Core.Path.{_≡_};
 ghost use mathlib.Core.Bool.{true};
 ghost use mathlib.Core.List.{_∷_};
-ghost use Prim.Native.Nat.{ℕ, _*_, _/_, _^_, _<_, _≤_};
+ghost use Prim.Native.Nat.{ℕ, _+_, _*_, _/_, _^_, _<_, _≤_};
 ghost use lib.ListN.{length, replicate};
+ghost use lib.Seq.{paste};
 ghost use Rattle.lsh.specs.Tabulate.{at};
 ghost use Rattle.lsh.specs.WordSize.{isWordSize, sizeOf, chainBytes, blockBytes};
 ghost use Rattle.lsh.specs.Bytes.{wordsOf, bytesOf};
 ghost use Rattle.lsh.specs.Block.{Chain, forwards, backwards};
 ghost use Rattle.lsh.specs.Opening.{opening};
 ghost use Rattle.lsh.specs.Padding.{blocksOf};
+ghost use Rattle.buffers.specs.ZeroFilled.{zeroFilled};
 ghost use Rattle.runs.specs.Limits.{longestBlock, longestDigest, isDigestLength};
 ghost use Rattle.runs.specs.Published.{publishedSizes, publishedLengths, openings};
 use lsh256::Lsh256;
@@ -330,6 +332,24 @@ pub fn zero_bytes() -> [u8; LONGEST_BLOCK]
     ensures { λ r. ⌜ r ≡ replicate longestBlock 0 ⌝ }
 {
     [0u8; LONGEST_BLOCK]
+}
+
+// The bytes of the part, and zeros after them.
+pub fn zero_filled(part: &[u8]) -> [u8; LONGEST_BLOCK]
+    requires { ⌜ length (now part) ≤ longestBlock ⌝ }
+    ensures { λ r. ⌜ r ≡ zeroFilled longestBlock (now (part .entry)) ⌝ }
+{
+    with_part(zero_bytes(), 0, part)
+}
+
+// The block with the part written from a place on.
+pub fn with_part(block: [u8; LONGEST_BLOCK], at: usize, part: &[u8]) -> [u8; LONGEST_BLOCK]
+    requires { ⌜ at + length (now part) ≤ longestBlock ⌝ }
+    ensures { λ r. ⌜ r ≡ paste block at (now (part .entry)) (length (now (part .entry))) ⌝ }
+{
+    let mut b = block;
+    buffers::put(&mut b, at, part);
+    b
 }
 
 // Puts the bytes of a chain into d.

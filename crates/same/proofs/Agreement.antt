@@ -11,8 +11,8 @@ use lib.ListN.{length, take}
 use Rattle.lsh.specs.Bits.{bitsOf}
 use Rattle.lsh.proofs.Tests.{and-true}
 use Rattle.lsh.specs.ByteString.{Bytes}
-use Rattle.equal.specs.Equal.{equal}
-use Rattle.equal.proofs.Equal.{equal-self, equal-true}
+use Rattle.buffers.specs.Equal.{equal}
+use Rattle.buffers.proofs.Equal.{equal-self, equal-true}
 use Rattle.finalization.specs.Receipt.{receiptBytes, receipt}
 use Rattle.same.specs.declared.Sameness.{Sameness}
 use Rattle.same.specs.Parts.{wordSizeOf, digestLengthOf, digestOf, bitLengthOf}

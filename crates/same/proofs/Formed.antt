@@ -20,11 +20,11 @@ use Rattle.lsh.specs.ByteString.{Bytes}
 use Rattle.lsh.proofs.Bytes.{bytes-take, bytes-drop, byte-word}
 use Rattle.message.proofs.Digest.{digest-bytes}
 use Rattle.runs.specs.Limits.{longestDigest, isDigestLength}
-use Rattle.runs.specs.ZeroFilled.{zeroFilled}
+use Rattle.buffers.specs.ZeroFilled.{zeroFilled}
 use Rattle.runs.proofs.Limits.{digest-longest}
 use Rattle.finalization.specs.Receipt.{receiptBytes, digestPlace, lengthPlace, receipt}
 use Rattle.finalization.specs.Ending.{mostBits}
-use Rattle.record.proofs.Lists.{zero-all}
+use Rattle.buffers.proofs.Lists.{zero-all}
 use Rattle.same.specs.Parts.{wordSizeOf, digestLengthOf, digestOf, bitLengthOf}
 use Rattle.same.specs.WellFormed.{unusedZero, zeroAfter, wellFormed, IsReceipt}
 

@@ -9,6 +9,7 @@ use borrow.Author.Tests.{eq-eqb, eqb-false, le-leb}
 use lib.Dec.{eqb}
 use lib.ListN.{length, take, drop, replicate, length-append, length-drop, List·getD-append}
 use lib.Seq.{length-take-le, take-at, take-append-le, getD-append-add}
+use Rattle.buffers.proofs.Lists.{filled-zero}
 use Rattle.lsh.specs.Tabulate.{at, tabulate}
 use Rattle.lsh.specs.WordSize.{isWordSize, sizeOf}
 use Rattle.lsh.specs.Bytes.{wordAt, byteAt}
@@ -21,12 +22,11 @@ use Rattle.message.proofs.Bits.{length-bits, low-zero}
 use Rattle.message.proofs.Back.{length-bytes}
 use Rattle.runs.specs.Limits.{longestDigest, isDigestLength, limit}
 use Rattle.runs.proofs.Limits.{digest-most, digest-longest}
-use Rattle.runs.proofs.Zeros.{filled-length}
+use Rattle.buffers.proofs.Zeros.{filled-length}
 use Rattle.finalization.specs.Receipt.{receiptBytes, digestPlace, lengthPlace, receipt}
 use Rattle.finalization.specs.Ending.{mostBits}
 use Rattle.finalization.proofs.FinalBytes.{length-final, at-append-zeros}
-use Rattle.record.specs.Lists.{allZero}
-use Rattle.record.proofs.Strings.{filled-zero}
+use Rattle.buffers.specs.Lists.{allZero}
 use Rattle.same.specs.Parts.{wordSizeOf, digestLengthOf, digestOf, bitLengthOf}
 use Rattle.same.specs.WellFormed.{unusedZero, zeroAfter, wellFormed}
 use Rattle.same.specs.Same.{isReceiptLong}

@@ -6,7 +6,7 @@ use Prim.Native.Nat.{ℕ}
 use lib.Dec.{eqb}
 use lib.ListN.{length}
 use Rattle.finalization.specs.Receipt.{receiptBytes}
-use Rattle.equal.specs.Equal.{equal}
+use Rattle.buffers.specs.Equal.{equal}
 use Rattle.same.specs.declared.Sameness.{Sameness}
 use Rattle.same.specs.Parts.{wordSizeOf, digestLengthOf, digestOf, bitLengthOf}
 use Rattle.same.specs.WellFormed.{wellFormed}

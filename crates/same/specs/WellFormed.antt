@@ -12,7 +12,7 @@ use Rattle.lsh.specs.ByteString.{Bytes}
 use Rattle.runs.specs.Limits.{isDigestLength}
 use Rattle.finalization.specs.Receipt.{receiptBytes, digestPlace, lengthPlace}
 use Rattle.finalization.specs.Ending.{mostBits}
-use Rattle.record.specs.Lists.{allZero}
+use Rattle.buffers.specs.Lists.{allZero}
 use Rattle.same.specs.Parts.{wordSizeOf, digestLengthOf, bitLengthOf}
 
 -- the low bits of the last byte of a digest of n bits are 0 where the digest does not use them

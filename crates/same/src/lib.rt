@@ -126,5 +126,5 @@ fn is_zero_after(r: &[u8], n: u64) -> bool
     ensures { λ b. ⌜ b ≡ zeroAfter (now (r .entry)) n ⌝ }
 {
     let after = DIGEST + ((n + 7) / 8) as usize;
-    record::zero_from(&r[..LENGTH], after)
+    buffers::zero_from(&r[..LENGTH], after)
 }

@@ -68,7 +68,7 @@ pub fn place(names: &[u8], name: &[u8]) -> usize
     let mut from: usize = 0;
     while from <= names.len() {
         let to = from + until(&names[from..], b' ');
-        if equal::equal_bytes(&names[from..to], name) {
+        if buffers::equal_bytes(&names[from..to], name) {
             return i;
         }
         from = to + 1;

@@ -11,6 +11,7 @@ use lib.Dec.{eqb}
 use lib.ListN.{length, take, drop, replicate, length-append}
 use lib.Seq.{take-at, take-append-le, drop-append-add}
 use borrow.Author.Tests.{eq-eqb, ne-eqb, eqb-true, not-false}
+use Rattle.buffers.proofs.Lists.{filled-zero}
 use Rattle.lsh.specs.WordSize.{WordSize, sizeOf, blockBytes}
 use Rattle.lsh.specs.Block.{Chain, backwards}
 use Rattle.lsh.specs.Padding.{blocksOf}
@@ -19,8 +20,8 @@ use Rattle.lsh.proofs.Blocks.{backwards-append, backwards-chain}
 use Rattle.lsh.proofs.Padding.{blocks-short}
 use Rattle.lsh.proofs.Splitting.{blocks-split}
 use Rattle.runs.specs.Limits.{longestBlock}
-use Rattle.equal.specs.Equal.{equal}
-use Rattle.equal.proofs.Equal.{equal-self, equal-true}
+use Rattle.buffers.specs.Equal.{equal}
+use Rattle.buffers.proofs.Equal.{equal-self, equal-true}
 use Rattle.answers.proofs.Tests.{test, tested, passed}
 use Rattle.record.specs.declared.Record.{Record}
 use Rattle.record.specs.declared.Split.{Split}
@@ -31,7 +32,6 @@ use Rattle.record.specs.Arrays.{Arrays}
 use Rattle.record.proofs.Sound.{Sound, sounds, chain-is, chain-below}
 use Rattle.record.proofs.Begun.{OneBegun, one-begun-sound, with-sound, none-is}
 use Rattle.record.proofs.InTurn.{in-turn, accepted-in-turn}
-use Rattle.record.proofs.Strings.{filled-zero}
 use Rattle.rewind.specs.Rewind.{keepsTooMuch, heldDiffers, reached, Cut, openingDiffers, rewound, cutCall, rewindInTurn, rewindCall}
 use Rattle.rewind.proofs.Lengths.{OnBlock, starts-on, keeps-few}
 use Rattle.split_rewind.specs.Begin.{begun, beginCall}

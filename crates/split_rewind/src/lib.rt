@@ -73,7 +73,7 @@ fn handed_back(r: Record, block: &[u8]) -> Split
     let second = s.second;
     let run = runs::backward(r.w, second, block);
     let c = run.chain;
-    let back = record::hold(block);
+    let back = runs::zero_filled(block);
     Split {
         mark: 1,
         second: c,

@@ -8,8 +8,8 @@ use borrow.Author.Tests.{eqb-true, eq-eqb}
 use lib.Dec.{eqb}
 use lib.ListN.{length}
 use Rattle.lsh.proofs.Tests.{and-true}
-use Rattle.equal.specs.Equal.{equal}
-use Rattle.equal.proofs.Equal.{equal-self, equal-true}
+use Rattle.buffers.specs.Equal.{equal}
+use Rattle.buffers.proofs.Equal.{equal-self, equal-true}
 use Rattle.hmac.specs.Hmac.{hashBytes, innerKey, outerKey, tagOf, hmac}
 use Rattle.hmac.proofs.Digests.{length-hash}
 use Rattle.tag.specs.KeyAnswer.{tagBytes, keyAnswer}

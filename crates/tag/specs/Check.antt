@@ -5,7 +5,7 @@ use mathlib.Core.List.{List}
 use Prim.Native.Nat.{ℕ}
 use lib.Dec.{eqb}
 use lib.ListN.{length}
-use Rattle.equal.specs.Equal.{equal}
+use Rattle.buffers.specs.Equal.{equal}
 use Rattle.same.specs.declared.Sameness.{Sameness}
 use Rattle.hmac.specs.Hmac.{hmac}
 use Rattle.tag.specs.KeyAnswer.{keyAnswer}

@@ -70,7 +70,7 @@ pub fn check(w: u64, n: u64, key: &[u8], message: &[u8], tag: &[u8]) -> Sameness
     }
     let size = (n / 8) as usize;
     let t = hmac::hmac(w, n, key, message);
-    let yes = equal::equal_bytes(&t[..size], tag);
+    let yes = buffers::equal_bytes(&t[..size], tag);
     Sameness {
         number: 0,
         same: yes,
@@ -83,7 +83,7 @@ fn write_tag(n: u64, t: [u8; LONGEST_BLOCK], output: &mut [u8])
     ensures { λ _. ⌜ now (output .exit) ≡ take (tagBytes n) t ++ drop (tagBytes n) (now (output .entry)) ⌝ }
 {
     let size = (n / 8) as usize;
-    text::put(output, 0, &t[..size]);
+    buffers::put(output, 0, &t[..size]);
 }
 
 // The answer for one message. Nothing is hashed before it is known.

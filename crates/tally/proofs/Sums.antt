@@ -8,8 +8,8 @@ use native.Mathlib.Numerals.{add-one}
 use lib.ListN.{length, drop}
 use lib.Seq.{drop-cons}
 use Rattle.lsh.specs.Tabulate.{at}
-use Rattle.equal.specs.Equal.{equal}
-use Rattle.equal.proofs.Equal.{equal-true}
+use Rattle.buffers.specs.Equal.{equal}
+use Rattle.buffers.proofs.Equal.{equal-true}
 use Rattle.same.specs.WellFormed.{IsReceipt}
 use Rattle.same.specs.Same.{sameReceipt}
 use Rattle.same.proofs.Agreement.{same-is-equal}

@@ -12,7 +12,7 @@ use Rattle.lsh.specs.WordSize.{isWordSize, sizeOf, blockBytes}
 use Rattle.lsh.specs.Padding.{restOf}
 use Rattle.answers.specs.First.{first}
 use Rattle.runs.specs.Limits.{isDigestLength, limit}
-use Rattle.equal.proofs.Equal.{equal-self}
+use Rattle.buffers.proofs.Equal.{equal-self}
 use Rattle.record.specs.declared.Record.{Record}
 use Rattle.record.specs.declared.Outcome.{Outcome}
 use Rattle.record.specs.Split.{notBegun}

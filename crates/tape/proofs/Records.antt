@@ -21,7 +21,7 @@ use Rattle.lsh.proofs.Blocks.{forwards-chain, backwards-forwards, forwards-appe
 use Rattle.lsh.proofs.Opening.{opening-chain}
 use Rattle.lsh.proofs.Padding.{blocks-short}
 use Rattle.runs.specs.Limits.{isDigestLength, limit}
-use Rattle.equal.proofs.Equal.{equal-self}
+use Rattle.buffers.proofs.Equal.{equal-self}
 use Rattle.record.specs.declared.Outcome.{Outcome}
 use Rattle.record.specs.Split.{notBegun}
 use Rattle.record.specs.Record.{sound, heldOf, recordOf}

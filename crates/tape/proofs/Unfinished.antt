@@ -25,21 +25,21 @@ use Rattle.lsh.proofs.Padding.{length-rest, one-block}
 use Rattle.lsh.proofs.Chains.{after-more, after-all, after-chain, after-take}
 use Rattle.runs.specs.Limits.{longestBlock, isDigestLength}
 use Rattle.runs.proofs.Limits.{block-most}
-use Rattle.runs.proofs.Zeros.{filled-length}
-use Rattle.runs.specs.ZeroFilled.{zeroFilled}
-use Rattle.equal.specs.Equal.{equal}
-use Rattle.equal.proofs.Equal.{equal-self}
-use Rattle.record.specs.Lists.{allZero}
+use Rattle.buffers.proofs.Zeros.{filled-length}
+use Rattle.buffers.specs.ZeroFilled.{zeroFilled}
+use Rattle.buffers.specs.Equal.{equal}
+use Rattle.buffers.proofs.Equal.{equal-self}
+use Rattle.buffers.specs.Lists.{allZero}
 use Rattle.record.specs.declared.Record.{Record}
 use Rattle.record.specs.declared.Split.{Split}
 use Rattle.record.specs.declared.Outcome.{Outcome}
 use Rattle.record.specs.Split.{notBegun}
 use Rattle.record.specs.Record.{heldOf, heldBytes, sound, isBegun, withSplit, recordOf}
 use Rattle.record.specs.Arrays.{Arrays}
-use Rattle.record.proofs.Lists.{all-zero}
+use Rattle.buffers.proofs.Lists.{all-zero, filled-zero}
 use Rattle.record.proofs.Sound.{chain-below}
 use Rattle.record.proofs.Begun.{one-begun-sound, with-sound}
-use Rattle.record.proofs.Strings.{held-record, record-idle, filled-zero}
+use Rattle.record.proofs.Strings.{held-record, record-idle}
 use Rattle.rewind.specs.Rewind.{keepsTooMuch, reached, cutCall}
 use Rattle.rewind.proofs.Lengths.{OnBlock, keeps-few}
 use Rattle.split_rewind.specs.Begin.{begun}

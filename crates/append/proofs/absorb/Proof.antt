@@ -19,6 +19,7 @@ blocks-in : (c : tie.After-block-bytes) → c .before .before .forward .result .
 blocks-in c = inside _ (c .before .before .before .before .args .piece .now) (c .before .before .forward .ensures .1) (c .block-bytes .ensures)
 
 pub absorb-spec : {M : Type 1} → statement M
+unfolding heldOf
 absorb-spec =
     tie.close
     (tie.spec
@@ -35,5 +36,5 @@ absorb-spec =
     let f = c .before .before .before .before .forward in (
       f .ensures .0,
       f .ensures .1,
-      c .hold .ensures ∙ ap heldOf (rest-is _ (c .before .before .before .before .before .before .args .piece .now) (f .ensures .1) (c .before .before .block-bytes .ensures)),
+      c .zero-filled .ensures ∙ ap heldOf (rest-is _ (c .before .before .before .before .before .before .args .piece .now) (f .ensures .1) (c .before .before .block-bytes .ensures)),
     )))

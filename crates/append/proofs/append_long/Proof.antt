@@ -62,10 +62,10 @@ module _ (c : tie.After-held-length) where
   filling = length-take-le k (P Z) (omega (arith, Z .pre .2))
 
 -- the held bytes with the first bytes of the piece
-first-long : (c : tie.After-put) → length (c .put .result) ≡ longestBlock
+first-long : (c : tie.After-with-part) → length (c .with-part .result) ≡ longestBlock
 first-long c = search needs
 
-block-in : (c : tie.After-put) → c .before .before .before .block-bytes .result ≤ length (c .put .result)
+block-in : (c : tie.After-with-part) → c .before .before .before .block-bytes .result ≤ length (c .with-part .result)
 block-in c = omega (arith, first-long c, size-most (c .before .before))
 
 absorb-requires : tie.Need-absorb-requires
@@ -103,7 +103,7 @@ returns c =
     let z = Z a in
     let t = c .before .before .before .before .absorb in
     let f = c .before .before .before .before .before .before .before .forward in
-    let u = c .before .before .before .before .before .before .before .before .before .put in
+    let u = c .before .before .before .before .before .before .before .before .before .with-part in
     rw (
       t .ensures .0,
       t .ensures .1,
@@ -127,7 +127,7 @@ append-long-spec =
     (λ c. sym (filling (c .before)))
     (λ c κs. omega (arith, filling (c .before), place-in (c .before), size-most (c .before)))
     block-in
-    (λ c. sym (length-take-le _ (c .before .put .result) (block-in (c .before))))
+    (λ c. sym (length-take-le _ (c .before .with-part .result) (block-in (c .before))))
     (λ c κs. let z = Z (c .before .before .before) in (is-sound z .word, chain z))
     (λ c. search needs)
     (λ c. search needs)

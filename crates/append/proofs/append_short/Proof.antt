@@ -19,7 +19,7 @@ add-r c = record { fits = omega (arith, c .before .before .before .before .befor
 returns : tie.Need-returns
 returns c =
     let z = c .before .before .before .before .before in
-    rw (c .before .put .ensures, c .before .before .held-length .ensures) (sym (short (z .args .r) (z .pre .0) (long z) (z .args .piece .now) (z .pre .2)))
+    rw (c .before .with-part .ensures, c .before .before .held-length .ensures) (sym (short (z .args .r) (z .pre .0) (long z) (z .args .piece .now) (z .pre .2)))
 
 pub append-short-spec : {M : Type 1} → statement M
 append-short-spec =

@@ -8,11 +8,11 @@ use lib.Seq.{length-take-le}
 use borrow.Author.Needs.{needs}
 use Rattle.lsh.specs.WordSize.{sizeOf, blockBytes}
 use Rattle.runs.specs.Limits.{longestBlock}
-use Rattle.runs.specs.ZeroFilled.{zeroFilled}
+use Rattle.buffers.specs.ZeroFilled.{zeroFilled}
 use Rattle.runs.proofs.Limits.{block-most, digest-longest}
 use Rattle.finalization.proofs.MessageChain.{opened-chain}
 use Rattle.hmac.proofs.Digests.{digestOn, hash-is}
-use Rattle.hmac.proofs.Keys.{digest-short, held-front, long-key, short-key}
+use Rattle.hmac.proofs.Keys.{digest-short, filled-front, long-key, short-key}
 use Rattle.hmac.proofs.key_block.Statement.{statement}
 use Rattle.hmac.proofs.key_block.Tie as tie
 
@@ -40,7 +40,7 @@ key-block-spec =
     let key = z .args .key .now in
     let short : length (take (z .args .n / 8) (f .digest-on .result)) ≤ blockBytes (sizeOf (z .args .w)) =
     rw (length-take-le _ _ (inside f)) (digest-short _ _ (z .pre .0) (z .pre .1) (z .pre .2)) in
-    held-front _ _ (c .hold .ensures) short
+    filled-front _ _ (c .zero-filled .ensures) short
     ∙ ap (zeroFilled (blockBytes (sizeOf (z .args .w))))
     (f .digest-on .ensures
     ∙ ap (λ (t : List ℕ). digestOn (z .args .w) (z .args .n) t key) (z .pre .3)
@@ -51,4 +51,4 @@ key-block-spec =
     let z = c .before .before .before .before in
     let key = z .args .key .now in
     let short : length key ≤ blockBytes (sizeOf (z .args .w)) = omega (arith, c .before .before .block-bytes .ensures, c .before .if1 .left) in
-    held-front _ key (c .hold2 .ensures) short ∙ short-key _ _ key short))
+    filled-front _ key (c .zero-filled2 .ensures) short ∙ short-key _ _ key short))

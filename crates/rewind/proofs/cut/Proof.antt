@@ -5,13 +5,14 @@ use native.Mathlib.Omega.{arith}
 use borrow.Author.Needs.{needs}
 use Rattle.runs.specs.Limits.{limit}
 use Rattle.runs.proofs.Limits.{block-most}
+use Rattle.record.specs.Record.{heldOf}
 use Rattle.record.proofs.Sound.{sounds}
 use Rattle.rewind.specs.Rewind.{openingDiffers, rewound, cutCall}
 use Rattle.rewind.proofs.cut.Statement.{statement}
 use Rattle.rewind.proofs.cut.Tie as tie
 
 pub cut-spec : {M : Type 1} → statement M
-unfolding cutCall openingDiffers rewound limit
+unfolding cutCall openingDiffers rewound heldOf limit
 cut-spec =
     tie.close
     (tie.spec
@@ -28,4 +29,4 @@ cut-spec =
     (λ c.
     let z = c .before .before .before .before .before .before in
     let e = c .before .before .before in
-    rw (c .before .hold .ensures, c .not-begun .ensures, z .pre .1, sym (e .before .opening-differs .ensures) ∙ e .if1 .left)))
+    rw (c .before .zero-filled .ensures, c .not-begun .ensures, z .pre .1, sym (e .before .opening-differs .ensures) ∙ e .if1 .left)))

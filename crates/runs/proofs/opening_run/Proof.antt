@@ -12,7 +12,7 @@ use Rattle.lsh.specs.Padding.{blocksOf}
 use Rattle.lsh.proofs.Opening.{firstChain, first-chain, opening-run}
 use Rattle.runs.specs.Limits.{longestBlock}
 use Rattle.runs.proofs.Limits.{block-most}
-use Rattle.runs.proofs.Zeros.{take-replicate}
+use Rattle.buffers.proofs.Zeros.{take-replicate}
 use Rattle.runs.proofs.opening_run.Statement.{statement}
 use Rattle.runs.proofs.opening_run.Tie as tie
 

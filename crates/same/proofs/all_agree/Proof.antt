@@ -3,7 +3,7 @@ use mathlib.Core.Path.{refl, sym, _∙_}
 use Prim.Native.Nat.{_-_, _≤_}
 use native.Mathlib.Omega.{arith}
 use Rattle.finalization.specs.Receipt.{receiptBytes}
-use Rattle.equal.proofs.Equal.{Tested, tested-more, tested-all}
+use Rattle.buffers.proofs.Equal.{Tested, tested-more, tested-all}
 use Rattle.same.proofs.Agreement.{same-is-equal}
 use Rattle.same.proofs.all_agree.Statement.{statement}
 use Rattle.same.proofs.all_agree.Tie as tie

@@ -8,6 +8,7 @@ use borrow.Author.Needs.{needs}
 use Rattle.lsh.specs.WordSize.{sizeOf, blockBytes}
 use Rattle.runs.specs.Limits.{limit}
 use Rattle.runs.proofs.Limits.{block-most}
+use Rattle.record.specs.Record.{heldOf}
 use Rattle.record.specs.declared.Record.{Record}
 use Rattle.record.proofs.Sound.{sounds}
 use Rattle.split_rewind.specs.HandBack.{handedBack}
@@ -26,7 +27,7 @@ module _ (z : tie.Start) where
   block = a-block (blockBytes (sizeOf (R .w))) (R .total) (R .split .blocks) (length (z .args .block .now)) (z .pre .2)
 
 pub handed-back-spec : {M : Type 1} → statement M
-unfolding handedBack limit
+unfolding handedBack heldOf limit
 handed-back-spec =
     tie.close
     (tie.spec
@@ -37,4 +38,4 @@ handed-back-spec =
     (λ c.
     let z = c .before .before .before .before .before .before .before in
     record { fits = omega (arith, block z .1, div-le-self (R z .total) (blockBytes (sizeOf (R z .w))), sounds (R z) (z .pre .0) .few) })
-    (λ c. rw (c .before .before .before .backward .ensures .0, c .before .hold .ensures)))
+    (λ c. rw (c .before .before .before .backward .ensures .0, c .before .zero-filled .ensures)))

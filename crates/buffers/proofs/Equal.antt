@@ -10,7 +10,7 @@ use lib.ListN.{length, drop, getD, drop-of-length-le}
 use lib.Seq.{drop-cons}
 use borrow.Author.Tests.{eqb-true, eq-eqb}
 use Rattle.lsh.proofs.Tests.{and-true, and-false}
-use Rattle.equal.specs.Equal.{equal}
+use Rattle.buffers.specs.Equal.{equal}
 
 pub equal-self : (s : List ℕ) → equal s s ≡ true
 equal-self [] = refl

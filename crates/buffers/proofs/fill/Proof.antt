@@ -1,4 +1,4 @@
--- `text::fill` meets its contract: before turn i the first i places are written. Assumes nothing.
+-- `buffers::fill` meets its contract: before turn i the first i places are written. Assumes nothing.
 use mathlib.Core.Path.{_≡_, refl, ap, _∙_}
 use mathlib.Core.List.{List, _++_, append-nil}
 use Prim.Native.Nat.{ℕ, _-_, _≤_, zero-le}
@@ -6,8 +6,8 @@ use native.Mathlib.Omega.{arith}
 use lib.ListN.{length, drop, replicate, length-set}
 use lib.Seq.{drop-length}
 use borrow.Author.Fill.{fill-none, fill-more}
-use Rattle.text.proofs.fill.Statement.{statement}
-use Rattle.text.proofs.fill.Tie as tie
+use Rattle.buffers.proofs.fill.Statement.{statement}
+use Rattle.buffers.proofs.fill.Tie as tie
 
 abbrev Inv-loop : tie.InvT-loop
 Inv-loop output₀ x n i₀ output i = (i ≤ n) × (output ≡ replicate i x ++ drop i output₀) × (length output ≡ length output₀)

@@ -1,11 +1,11 @@
--- `equal::equal_bytes` meets its contract. Assumes nothing.
+-- `buffers::equal_bytes` meets its contract. Assumes nothing.
 use mathlib.Core.Path.{_≡_, refl, sym}
 use Prim.Native.Nat.{_-_}
 use native.Mathlib.Omega.{arith}
 use lib.ListN.{length}
-use Rattle.equal.proofs.Equal.{equal-length, Tested, tested-more, tested-all}
-use Rattle.equal.proofs.equal_bytes.Statement.{statement}
-use Rattle.equal.proofs.equal_bytes.Tie as tie
+use Rattle.buffers.proofs.Equal.{equal-length, Tested, tested-more, tested-all}
+use Rattle.buffers.proofs.equal_bytes.Statement.{statement}
+use Rattle.buffers.proofs.equal_bytes.Tie as tie
 
 abbrev Inv-loop : tie.InvT-loop
 Inv-loop a b same₀ i₀ same i = Tested a b same i × (length a ≡ length b)

@@ -1,12 +1,12 @@
--- `equal::equal_chains` meets its contract. Assumes nothing.
+-- `buffers::equal_chains` meets its contract. Assumes nothing.
 use mathlib.Core.Path.{_≡_, refl}
 use Prim.Native.Nat.{_-_}
 use native.Mathlib.Omega.{arith}
 use lib.ListN.{length}
 use borrow.Author.Needs.{needs}
-use Rattle.equal.proofs.Equal.{Tested, tested-more, tested-all}
-use Rattle.equal.proofs.equal_chains.Statement.{statement}
-use Rattle.equal.proofs.equal_chains.Tie as tie
+use Rattle.buffers.proofs.Equal.{Tested, tested-more, tested-all}
+use Rattle.buffers.proofs.equal_chains.Statement.{statement}
+use Rattle.buffers.proofs.equal_chains.Tie as tie
 
 abbrev Inv-loop : tie.InvT-loop
 Inv-loop x y same₀ i₀ same i = Tested x y same i × (length x ≡ 16) × (length y ≡ 16)

@@ -1,19 +1,21 @@
 -- Lists tested number by number, and lists of zeros.
 -- Assumes nothing.
-use mathlib.Core.Path.{_≡_, refl, sym, ap₂, _∙_}
+use mathlib.Core.Path.{_≡_, refl, sym, ap, ap₂, _∙_}
 use mathlib.Core.Bool.{Bool, true, _&&_, and-assoc, and-comm}
 use mathlib.Core.List.{List, [], _∷_, _++_}
 use Prim.Native.Nat.{ℕ, zero, suc, _+_, _-_, _≤_, _<_}
 use native.Mathlib.Nat.{zero-add, le-refl}
 use native.Mathlib.Numerals.{add-one}
+use native.Mathlib.Omega.{arith}
 use lib.Dec.{eqb, ltb}
 use lib.ListN.{length, drop, getD, replicate, drop-of-length-le}
-use lib.Seq.{drop-cons, take-all, paste}
+use lib.Seq.{drop-cons, drop-append-add, take-all, paste}
 use borrow.Author.Tests.{eqb-true, ltb-true, lt-ltb}
 use Rattle.lsh.specs.Tabulate.{at}
 use Rattle.lsh.proofs.Tests.{and-true}
-use Rattle.runs.proofs.Zeros.{drop-replicate}
-use Rattle.record.specs.Lists.{allBelow, allZero}
+use Rattle.buffers.proofs.Zeros.{drop-replicate}
+use Rattle.buffers.specs.Lists.{allBelow, allZero}
+use Rattle.buffers.specs.ZeroFilled.{zeroFilled}
 
 -- the test of the places from i on, by that of place i
 pub below-at : (m : ℕ) (s : List ℕ) (i : ℕ) → i < length s → allBelow m (drop i s) ≡ (ltb (getD s i 0) m && allBelow m (drop (i + 1) s))
@@ -56,3 +58,12 @@ zero-all (x ∷ xs) e =
 -- a string copied into zeros
 pub into-zeros : (n : ℕ) (s : List ℕ) → paste (replicate n 0) 0 s (length s) ≡ s ++ replicate (n - length s) 0
 into-zeros n s = rw (zero-add, take-all (length s) s (le-refl (length s)), drop-replicate (length s) n 0)
+
+-- what fills a string is 0
+pub filled-zero : (n : ℕ) (s : List ℕ) (k : ℕ) → length s ≤ k → allZero (drop k (zeroFilled n s)) ≡ true
+filled-zero n s k le =
+    let more : ℕ = k - length s in
+    let sum : k ≡ length s + more = omega (arith, le) in
+    ap (λ (i : ℕ). allZero (drop i (zeroFilled n s))) sum
+    ∙ ap allZero (drop-append-add s (replicate (n - length s) 0) more ∙ drop-replicate more (n - length s) 0)
+    ∙ all-zero (n - length s - more)

@@ -1,11 +1,11 @@
--- `record::zero_from` meets its contract: before turn i the flag says whether the bytes before place i are 0. Assumes nothing.
+-- `buffers::zero_from` meets its contract: before turn i the flag says whether the bytes before place i are 0. Assumes nothing.
 use mathlib.Core.Path.{refl}
 use Prim.Native.Nat.{_-_}
 use native.Mathlib.Omega.{arith}
 use lib.ListN.{length}
-use Rattle.record.proofs.Lists.{Zeros, zeros-more, zeros-all}
-use Rattle.record.proofs.zero_from.Statement.{statement}
-use Rattle.record.proofs.zero_from.Tie as tie
+use Rattle.buffers.proofs.Lists.{Zeros, zeros-more, zeros-all}
+use Rattle.buffers.proofs.zero_from.Statement.{statement}
+use Rattle.buffers.proofs.zero_from.Tie as tie
 
 abbrev Inv-loop : tie.InvT-loop
 Inv-loop s at zero₀ i₀ zero i = Zeros s at zero i

@@ -1,0 +1,3 @@
+pub mod Equal
+pub mod Lists
+pub mod ZeroFilled
