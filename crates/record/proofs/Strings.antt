@@ -4,11 +4,11 @@
 use mathlib.Core.Path.{_≡_, refl, sym, ap, _∙_}
 use mathlib.Core.Bool.{true, false}
 use mathlib.Core.List.{List, []}
-use Prim.Native.Nat.{ℕ, _+_, _-_, _*_, _/_, _%_, _^_, _≤_}
-use native.Mathlib.Nat.{zero-mul, zero-div, mul-div-cancel, mul-mod-left, le-of-eq}
+use Prim.Native.Nat.{ℕ, _+_, _-_, _*_, _%_, _^_, _≤_}
+use native.Mathlib.Nat.{zero-mul, zero-div, mul-mod-left, le-of-eq}
 use native.Mathlib.Omega.{arith}
 use borrow.Author.Tests.{le-leb}
-use lib.ListN.{length, take, drop, replicate, take-append-drop}
+use lib.ListN.{length, take, drop, replicate}
 use lib.Seq.{length-take-le, take-at, drop-append-add}
 use Rattle.lsh.specs.WordSize.{WordSize, isWordSize, sizeOf, blockBytes}
 use Rattle.lsh.specs.Block.{Chain, forwards}
