@@ -14,11 +14,11 @@ use Rattle.close.specs.Close.{closeAnswer}
 
 -- an accepted call
 pub record Accepted (r : Record) (last e size : ℕ) : Type 0 where
-  pub taken : sound r ≡ true
+  pub soundRecord : sound r ≡ true
   pub end : Ended last e size
 
 pub accepted : (r : Record) (last e size : ℕ) → closeAnswer r last e size ≡ 0 → Accepted r last e size
 unfolding closeAnswer
 accepted r last e size is =
     let p = passed (λ (k : ℕ). k) (test (not (sound r)) 3 ∷ []) (endAnswer last e size) refl is in
-    record { taken = not-false (sound r) (p .0 0); end = ended last e size (sym (p .1) ∙ is) }
+    record { soundRecord = not-false (sound r) (p .0 0); end = ended last e size (sym (p .1) ∙ is) }

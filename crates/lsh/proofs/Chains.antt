@@ -17,7 +17,7 @@ use Rattle.lsh.proofs.Padding.{blockAt, firstBlocks-add, firstBlocks-mo
 module _ (z : WordSize) (t s : List ℕ) where
   -- after one block more
   pub after-more : (k : ℕ) → chainAfter z t s (suc k) ≡ forward z (blockAt z s k) (chainAfter z t s k)
-  unfolding chainAfter forwards
+  unfolding chainAfter forwards forward
   after-more k =
       ap (λ (bs : List (List ℕ)). forwards z bs t) (firstBlocks-more z k s) ∙ forwards-append z (firstBlocks z k s) (blockAt z s k ∷ []) t
 

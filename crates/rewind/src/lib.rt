@@ -91,14 +91,14 @@ pub fn cut(r: Record, count: u64, size: u64, keep: u64, c: [u64; 16], s: &[u8]) 
     if opening_differs(w, n, left, c) {
         return record::refused(9, r);
     }
-    let kept = record::hold(&s[..keep as usize]);
+    let remains = record::hold(&s[..keep as usize]);
     let none = record::not_begun();
     let next = Record {
         w: w,
         n: n,
         total: left + keep,
         chain: c,
-        held: kept,
+        held: remains,
         split: none,
     };
     Outcome {

@@ -39,20 +39,20 @@ module _ (w n : ℕ) (key : List ℕ) (lent : Lent) (cs : List Call) (accepted :
   abbrev split : Split
   split = cond (T .begun) (tapeSplit w n (T .bytes) (T .number)) notBegun
 
-  kept : SoundTape w T
-  kept = tape-is-sound w n (Started key) lent cs accepted
+  good : SoundTape w T
+  good = tape-is-sound w n (Started key) lent cs accepted
 
   first : Keyed w n (length key) 0
   first = start-accepted w n key accepted
 
   sounds : (sound (recordOf w n (T .bytes)) ≡ true) × (sound (withSplit (recordOf w n (T .bytes)) split) ≡ true)
   unfolding tapeRecord
-  sounds = both-sound w n T (first .wordSize) (first .digestLength) kept
+  sounds = both-sound w n T (first .wordSize) (first .digestLength) good
 
   -- the message m is what the tape has after the key's inner block
   module _ (m : List ℕ) (after : T .bytes ≡ innerKey w n key ++ m) where
     both : WithinLimit (innerKey w n key ++ m)
-    both = subst WithinLimit after (kept .bytes)
+    both = subst WithinLimit after (good .bytes)
 
     keyed : Keyed w n (length key) (length m)
     keyed = keyed-message w n key accepted m (both .few)

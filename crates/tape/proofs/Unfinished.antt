@@ -255,11 +255,11 @@ module _ (w : ℕ) (word : isWordSize w ≡ true) (n : ℕ) (digest : isDigestLe
           (omega (arith, length-drop (j * B) s, mul-le-mul-right B fits, suc-mul j B, div-add-mod' (length s) B))
 
       run-back : backwards Z (blocksOf Z b) (chainAfter Z O s (m - k)) ≡ chainAfter Z O s j
-      unfolding blockAfter backwards
+      unfolding blockAfter backwards forward
       run-back =
           let next : m - k ≡ suc j = omega (arith, less) in
           ap₂ (backwards Z) (one-block Z some b b-length) (ap (chainAfter Z O s) next ∙ after-more Z O s j ∙ ap (λ (t : List ℕ). forward Z (wordsOf Z 32 t) (chainAfter Z O s j)) (sym is))
-          ∙ backward-forward Z (amounts w) (wordsOf Z 32 b) (chainAfter Z O s j) (chain-of j)
+          ∙ backward-forward Z (amounts w) (wordsOf Z 32 b) (Z .steps) (chainAfter Z O s j) (chain-of j)
 
       pub block-more : handedBack Y b ≡ tapeSplit w n s (k + 1)
       unfolding handedBack withSplit recordOf tapeSplit handedLast wholeBlocks

@@ -35,7 +35,7 @@ pub close-written : (r : Record) (last e : ℕ) (output : List ℕ) → closeAns
 unfolding closeOutput closedDigest mostBits
 close-written r last e output is =
     let a = close-answers.accepted r last e (length output) is in
-    let s = sounds r (a .taken) in
+    let s = sounds r (a .soundRecord) in
     at-front-of (r .w) (r .n) (closedDigest r last e) (8 * r .total + e) (s .word) (s .digestLength)
     (digest-long (r .w) (r .n) _ (s .word) (s .digestLength))
     (omega (arith, s .few, a .end .extra))

@@ -24,7 +24,7 @@ passed c =
     accepted (a .r) (a .last) (a .e) (length (a .output .now)) (sym (c .before .answer .ensures) ∙ c .if1 .left)
 
 is-sound : (c : tie.Else1) → Sound (c .before .before .before .args .r)
-is-sound c = sounds (c .before .before .before .args .r) (passed c .taken)
+is-sound c = sounds (c .before .before .before .args .r) (passed c .soundRecord)
 
 write-receipt-requires : tie.Need-write-receipt-requires
 write-receipt-requires c κs =
@@ -54,7 +54,7 @@ close-spec =
     (λ c. omega (arith, is-sound (c .before) .few))
     (λ c. omega (arith, is-sound (c .before) .few, passed (c .before) .end .extra))
     (λ c. record { fits = omega (arith, passed (c .before) .end .extra) })
-    (λ c κs. (passed (c .before) .taken, passed (c .before) .end .extra, passed (c .before) .end .low))
+    (λ c κs. (passed (c .before) .soundRecord, passed (c .before) .end .extra, passed (c .before) .end .low))
     write-receipt-requires
     (λ c. search needs)
     returns-2)

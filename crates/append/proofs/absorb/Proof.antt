@@ -1,4 +1,4 @@
--- `append::take_whole` meets its contract. Assumes nothing.
+-- `append::absorb` meets its contract. Assumes nothing.
 use mathlib.Core.Path.{ap, _∙_}
 use Prim.Native.Nat.{_*_, _≤_}
 use native.Mathlib.Omega.{arith}
@@ -9,8 +9,8 @@ use borrow.Author.Needs.{needs}
 use Rattle.runs.proofs.Rest.{inside, rest-is, rest-short}
 use Rattle.record.specs.Record.{heldOf}
 use Rattle.runs.proofs.Limits.{block-most}
-use Rattle.append.proofs.take_whole.Statement.{statement}
-use Rattle.append.proofs.take_whole.Tie as tie
+use Rattle.append.proofs.absorb.Statement.{statement}
+use Rattle.append.proofs.absorb.Tie as tie
 
 piece-fits : (c : tie.Start) → Fits w64 (length (c .args .piece .now))
 piece-fits c = search needs
@@ -18,8 +18,8 @@ piece-fits c = search needs
 blocks-in : (c : tie.After-block-bytes) → c .before .before .forward .result .count * c .block-bytes .result ≤ length (c .before .before .before .before .args .piece .now)
 blocks-in c = inside _ (c .before .before .before .before .args .piece .now) (c .before .before .forward .ensures .1) (c .block-bytes .ensures)
 
-pub take-whole-spec : {M : Type 1} → statement M
-take-whole-spec =
+pub absorb-spec : {M : Type 1} → statement M
+absorb-spec =
     tie.close
     (tie.spec
     (λ c κs. search needs)
