@@ -104,7 +104,7 @@ module _ (z : WordSize) where
     unfolding nextIndex newRoll indexPlace wordAt
     new-way = rw (at-zeros (rollBytes z k) 0, at-zeros (rollBytes z k) 1)
 
-    pub new-links : links z (newRoll z k) ≡ []
+    new-links : links z (newRoll z k) ≡ []
     new-links = links-are (newRoll z k) [] new-right new-way refl (λ x h. absurd (false≢true h))
 
     pub new-shown : shown z (newRoll z k) ≡ []

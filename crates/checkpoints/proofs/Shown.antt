@@ -52,7 +52,7 @@ in-numbers : (z : WordSize) (s : List ℕ) (k : ℕ) (l : List ℕ) → numbersO
 in-numbers z s k [] = refl
 in-numbers z s k (x ∷ l) = ap (λ (r : List ℕ). spacing * suc k ∷ r) (in-numbers z s (suc k) l)
 
-pub shown-numbers : (z : WordSize) (s : List ℕ) → numbersOf (shown z s) ≡ multiplesAfter 0 (length (links z s))
+shown-numbers : (z : WordSize) (s : List ℕ) → numbersOf (shown z s) ≡ multiplesAfter 0 (length (links z s))
 unfolding shown
 shown-numbers z s = in-numbers z s 0 (links z s)
 
@@ -198,7 +198,7 @@ module _ (z : WordSize) (ok : Octets z) (s : List ℕ) (is : isRoll z s ≡ true
         ∙ slot-chain z ok k s (sizes .size) i (free .within) (free .some) t chain
 
     -- it is shown behind the others, if it has the number of the next
-    pub laid-shown : c .number ≡ spacing * suc (length L) → shown z (laid z c s) ≡ shown z s ++ c ∷ []
+    laid-shown : c .number ≡ spacing * suc (length L) → shown z (laid z c s) ≡ shown z s ++ c ∷ []
     unfolding shown
     laid-shown next =
         ap₂ (λ (u : List ℕ) (l : List ℕ). checkpointsIn z u 1 l) laid-is laid-links
@@ -206,7 +206,7 @@ module _ (z : WordSize) (ok : Octets z) (s : List ℕ) (is : isRoll z s ≡ true
         ∙ ap₂ (λ (cs : List Checkpoint) (x : List ℕ). cs ++ record { number = c .number; chain = x } ∷ []) (in-same z U s 1 L chain-stays) chain-new
 
     -- every other slot that was not linked keeps its bytes
-    pub laid-untaken : (j : ℕ) → 0 < j → member j (links z (laid z c s)) ≡ false → slotAt z (laid z c s) j ≡ slotAt z s j
+    laid-untaken : (j : ℕ) → 0 < j → member j (links z (laid z c s)) ≡ false → slotAt z (laid z c s) j ≡ slotAt z s j
     laid-untaken j some unlinked-after =
         let p : (eqb j i ≡ false) × (member j L ≡ false) =
         or-false (eqb j i) (member j L) (sym (ap (member j) laid-links ∙ one-snoc eqb j i L) ∙ unlinked-after) in

@@ -4,7 +4,7 @@ use mathlib.Core.Path.{_≡_, refl, sym, ap, ap₂, _∙_}
 use mathlib.Core.Logic.{_⊎_, inl, inr}
 use mathlib.Core.List.{List}
 use Prim.Native.Nat.{ℕ, zero, suc, _+_, _-_, _*_, _≤_, _<_, _^_, min}
-use native.Mathlib.Decide.{decLt}
+use native.Mathlib.Decide.{ℕ-discrete}
 use native.Mathlib.Omega.{arith}
 use lib.Arith.{digits-lt}
 use lib.ListN.{length, take, drop, length-take, length-drop}
@@ -19,7 +19,7 @@ use Rattle.engine.proofs.Places.{at-sets-before, at-sets-after, at-sets-in}
 use Rattle.checkpoints.specs.Slots.{indexBytes, slotBytes, rollBytes, indexPlace, chainPlace, slotAt}
 use Rattle.checkpoints.specs.Roll.{nextIndex, chainIn}
 use Rattle.checkpoints.specs.Checkpoints.{withIndex, withSlot}
-use Rattle.checkpoints.proofs.Places.{index-before, slot-before, index-in, slot-is, chain-in, chain-before}
+use Rattle.checkpoints.proofs.Places.{Clear, extent, slot-is, extent-is, index-first, index-in, chain-in, other-clear}
 
 -- numbers and words of the same bytes
 word-same : (k : ℕ) (s t : List ℕ) (a b : ℕ) → ((q : ℕ) → q < k → at s (a + q) ≡ at t (b + q)) → wordAt k s a ≡ wordAt k t b
@@ -44,10 +44,6 @@ words-same z s t h =
 at-outside : (s : List ℕ) (a : ℕ) (vs : List ℕ) (q : ℕ) → (q < a) ⊎ (a + length vs ≤ q) → at (sets s a vs) q ≡ at s q
 at-outside s a vs q (inl before) = at-sets-before s a vs q before
 at-outside s a vs q (inr after) = at-sets-after s a vs q after
-
--- n bytes from b on, that end before what was written or begin after it
-abbrev Clear : ℕ → ℕ → ℕ → ℕ → Type 0
-Clear b n a size = (b + n ≤ a) ⊎ (a + size ≤ b)
 
 clear-at : (s : List ℕ) (a : ℕ) (vs : List ℕ) (b n : ℕ) → Clear b n a (length vs) → (q : ℕ) → q < n → at (sets s a vs) (b + q) ≡ at s (b + q)
 clear-at s a vs b n (inl h) q lt = at-outside s a vs (b + q) (inl (omega arith))
@@ -102,44 +98,31 @@ module _ (z : WordSize) (ok : Octets z) where
           at-sets-in s (indexPlace z i) (tabulate indexBytes (byteAt x)) q (rw (index-long x, size) (index-in z i k within)) (rw (index-long x) lt)
           ∙ at-tabulate indexBytes (byteAt x) q lt)
 
-      index-clear : (j : ℕ) → (j ≡ i → ⊥) → Clear (indexPlace z j) indexBytes (indexPlace z i) (length (tabulate indexBytes (byteAt x)))
-      index-clear j other = rw (index-long x) (go (decLt j i))
-        where
-          go : Dec (j < i) → Clear (indexPlace z j) indexBytes (indexPlace z i) indexBytes
-          go (yes before) = inl (index-before z j i before)
-          go (no after) = inr (index-before z i j (omega arith))
+      -- a part of another slot
+      off : (j : ℕ) → (j ≡ i → ⊥) → (b n : ℕ) → indexPlace z j ≤ b → b + n ≤ indexPlace z j + extent z j
+          → Clear b n (indexPlace z i) (length (tabulate indexBytes (byteAt x)))
+      off j other b n from to = other-clear z i j other b n (indexPlace z i) _ from to (omega arith) (omega (arith, index-long x, index-first z i))
 
       pub next-other : (j : ℕ) → (j ≡ i → ⊥) → nextIndex z (withIndex z s i x) j ≡ nextIndex z s j
       unfolding withIndex
-      next-other j other = next-clear s (indexPlace z i) (tabulate indexBytes (byteAt x)) j (index-clear j other)
+      next-other j other = next-clear s (indexPlace z i) (tabulate indexBytes (byteAt x)) j
+          (off j other (indexPlace z j) indexBytes (omega arith) (omega (arith, index-first z j)))
 
       -- another slot
       pub slot-kept : (j : ℕ) → 0 < j → (j ≡ i → ⊥) → slotAt z (withIndex z s i x) j ≡ slotAt z s j
       unfolding slotAt withIndex
       slot-kept j some other =
-          part-clear s (indexPlace z i) (tabulate indexBytes (byteAt x)) (indexPlace z j) (slotBytes z) (rw (index-long x) (go (decLt j i)))
-        where
-          go : Dec (j < i) → Clear (indexPlace z j) (slotBytes z) (indexPlace z i) indexBytes
-          go (yes before) = inl (slot-before z j i some before)
-          go (no after) = inr (index-before z i j (omega arith))
+          part-clear s (indexPlace z i) (tabulate indexBytes (byteAt x)) (indexPlace z j) (slotBytes z)
+          (off j other (indexPlace z j) (slotBytes z) (omega arith) (omega (arith, extent-is z j some)))
 
-      chain-off : (j : ℕ) → 0 < j → Clear (chainPlace z j) (chainBytes z) (indexPlace z i) (length (tabulate indexBytes (byteAt x)))
+      chain-off : (j : ℕ) → 0 < j → Dec (j ≡ i) → Clear (chainPlace z j) (chainBytes z) (indexPlace z i) (length (tabulate indexBytes (byteAt x)))
       unfolding chainPlace
-      chain-off j some = rw (index-long x) (go (decLt j i) (decLt i j))
-        where
-          long : slotBytes z ≡ indexBytes + chainBytes z
-          long = slot-is z
-
-          go : Dec (j < i) → Dec (i < j) → Clear (indexPlace z j + indexBytes) (chainBytes z) (indexPlace z i) indexBytes
-          go (yes before) d = inl (omega (arith, slot-before z j i some before, long))
-          go (no after) (yes less) = inr (omega (arith, index-before z i j less))
-          go (no after) (no more) =
-              let same : j ≡ i = omega arith in
-              inr (omega (arith, ap (indexPlace z) same))
+      chain-off j some (yes same) = inr (omega (arith, index-long x, ap (indexPlace z) same))
+      chain-off j some (no other) = off j other (chainPlace z j) (chainBytes z) (omega arith) (omega (arith, extent-is z j some, slot-is z))
 
       pub chain-kept : (j : ℕ) → 0 < j → chainIn z (withIndex z s i x) j ≡ chainIn z s j
       unfolding withIndex
-      chain-kept j some = chain-clear s (indexPlace z i) (tabulate indexBytes (byteAt x)) j (chain-off j some)
+      chain-kept j some = chain-clear s (indexPlace z i) (tabulate indexBytes (byteAt x)) j (chain-off j some (ℕ-discrete j i))
 
     -- a slot written
     module _ (some : 0 < i) (t : List ℕ) (chain : Chain z t) where
@@ -149,31 +132,27 @@ module _ (z : WordSize) (ok : Octets z) where
       long : length (bytesOf z t) ≡ chainBytes z
       long = length-chain z ok t (chain .words)
 
-      slot-long : slotBytes z ≡ indexBytes + chainBytes z
-      slot-long = slot-is z
+      -- a part of another slot
+      out : (j : ℕ) → (j ≡ i → ⊥) → (b n : ℕ) → indexPlace z j ≤ b → b + n ≤ indexPlace z j + extent z j → Clear b n (chainPlace z i) (length (bytesOf z t))
+      unfolding chainPlace
+      out j other b n from to = other-clear z i j other b n (chainPlace z i) _ from to (omega arith) (omega (arith, long, extent-is z i some, slot-is z))
 
       pub slot-size : length (withSlot z s i t) ≡ length s
       unfolding withSlot
       slot-size = length-sets S (chainPlace z i) (bytesOf z t) ∙ index-size 0
 
-      slot-next-clear : (j : ℕ) → Clear (indexPlace z j) indexBytes (chainPlace z i) (length (bytesOf z t))
+      slot-next-clear : (j : ℕ) → Dec (j ≡ i) → Clear (indexPlace z j) indexBytes (chainPlace z i) (length (bytesOf z t))
       unfolding chainPlace
-      slot-next-clear j = rw long (go (decLt i j) (decLt j i))
-        where
-          go : Dec (i < j) → Dec (j < i) → Clear (indexPlace z j) indexBytes (indexPlace z i + indexBytes) (chainBytes z)
-          go (yes after) d = inr (omega (arith, slot-before z i j some after, slot-long))
-          go (no up) (yes before) = inl (omega (arith, index-before z j i before))
-          go (no up) (no down) =
-              let same : j ≡ i = omega arith in
-              inl (omega (arith, ap (indexPlace z) same))
+      slot-next-clear j (yes same) = inl (omega (arith, ap (indexPlace z) same))
+      slot-next-clear j (no other) = out j other (indexPlace z j) indexBytes (omega arith) (omega (arith, index-first z j))
 
       pub slot-next : nextIndex z (withSlot z s i t) i ≡ 0
       unfolding withSlot
-      slot-next = next-clear S (chainPlace z i) (bytesOf z t) i (slot-next-clear i) ∙ next-is 0 (omega arith)
+      slot-next = next-clear S (chainPlace z i) (bytesOf z t) i (slot-next-clear i (yes refl)) ∙ next-is 0 (omega arith)
 
       pub slot-next-other : (j : ℕ) → (j ≡ i → ⊥) → nextIndex z (withSlot z s i t) j ≡ nextIndex z s j
       unfolding withSlot
-      slot-next-other j other = next-clear S (chainPlace z i) (bytesOf z t) j (slot-next-clear j) ∙ next-other 0 j other
+      slot-next-other j other = next-clear S (chainPlace z i) (bytesOf z t) j (slot-next-clear j (no other)) ∙ next-other 0 j other
 
       pub slot-chain : chainIn z (withSlot z s i t) i ≡ t
       unfolding withSlot chainIn
@@ -188,18 +167,13 @@ module _ (z : WordSize) (ok : Octets z) where
           room = rw (long, index-size 0, size) (chain-in z i k some within)
 
       pub slot-chain-other : (j : ℕ) → 0 < j → (j ≡ i → ⊥) → chainIn z (withSlot z s i t) j ≡ chainIn z s j
-      unfolding withSlot
-      slot-chain-other j some-j other = chain-clear S (chainPlace z i) (bytesOf z t) j (rw long (clear (decLt j i))) ∙ chain-kept 0 j some-j
-        where
-          clear : Dec (j < i) → Clear (chainPlace z j) (chainBytes z) (chainPlace z i) (chainBytes z)
-          clear (yes before) = inl (chain-before z j i some-j before)
-          clear (no after) = inr (chain-before z i j some (omega arith))
+      unfolding withSlot chainPlace
+      slot-chain-other j some-j other =
+          chain-clear S (chainPlace z i) (bytesOf z t) j (out j other (chainPlace z j) (chainBytes z) (omega arith) (omega (arith, extent-is z j some-j, slot-is z)))
+          ∙ chain-kept 0 j some-j
 
       pub slot-kept-other : (j : ℕ) → 0 < j → (j ≡ i → ⊥) → slotAt z (withSlot z s i t) j ≡ slotAt z s j
       unfolding slotAt withSlot chainPlace
       slot-kept-other j some-j other =
-          part-clear S (chainPlace z i) (bytesOf z t) (indexPlace z j) (slotBytes z) (rw long (clear (decLt j i))) ∙ slot-kept 0 j some-j other
-        where
-          clear : Dec (j < i) → Clear (indexPlace z j) (slotBytes z) (indexPlace z i + indexBytes) (chainBytes z)
-          clear (yes before) = inl (omega (arith, slot-before z j i some-j before))
-          clear (no after) = inr (omega (arith, slot-before z i j some (omega arith), slot-long))
+          part-clear S (chainPlace z i) (bytesOf z t) (indexPlace z j) (slotBytes z) (out j other (indexPlace z j) (slotBytes z) (omega arith) (omega (arith, extent-is z j some-j)))
+          ∙ slot-kept 0 j some-j other

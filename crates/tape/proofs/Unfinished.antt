@@ -3,12 +3,12 @@
 -- Assumes nothing.
 use mathlib.Core.Path.{_≡_, refl, sym, ap, ap₂, _∙_, subst}
 use mathlib.Core.Bool.{Bool, true, false, cond, not, _&&_, _||_, false≢true}
-use mathlib.Core.List.{List, [], _∷_, _++_}
+use mathlib.Core.List.{List, []}
 use Prim.Native.Nat.{ℕ, suc, _+_, _-_, _*_, _/_, _%_, _≤_, _<_, zero-le}
-use native.Mathlib.Nat.{sub-zero, one-mul, mod-lt, div-add-mod', mul-div-cancel, mul-le-mul-right, suc-mul, le-of-eq}
+use native.Mathlib.Nat.{sub-zero, one-mul, mod-lt, div-add-mod', mul-le-mul-right, suc-mul, le-of-eq}
 use native.Mathlib.Omega.{arith}
 use lib.Dec.{eqb}
-use lib.ListN.{length, take, drop, replicate, length-drop, length-replicate, take-append-drop}
+use lib.ListN.{length, take, drop, replicate, length-drop, length-replicate}
 use lib.Seq.{take-at, take-take, length-take-le}
 use borrow.Author.Tests.{eq-eqb, ne-eqb, eqb-true}
 use Rattle.lsh.specs.WordSize.{WordSize, isWordSize, sizeOf, blockBytes}

@@ -7,9 +7,7 @@ use native.Mathlib.Omega.{arith}
 use lib.ListN.{length, take, drop, length-drop}
 use lib.Seq.{length-take-le}
 use borrow.Author.Needs.{needs}
-use Rattle.lsh.specs.WordSize.{sizeOf}
 use Rattle.lsh.proofs.Figures.{block-some}
-use Rattle.runs.specs.Limits.{longestBlock}
 use Rattle.runs.proofs.Rest.{from-place}
 use Rattle.record.specs.declared.Record.{Record}
 use Rattle.record.specs.Record.{heldOf, sound}
@@ -19,7 +17,7 @@ use Rattle.checkpoints.specs.Roll.{checkpoints}
 use Rattle.checkpoints.proofs.Form.{roll-of}
 use Rattle.checkpoints.proofs.Spacing.{step}
 use Rattle.append_roll.proofs.Answers.{Accepted, accepted, goal-of, accepted-call}
-use Rattle.append_roll.proofs.Parts.{laid-at, due-after, Parted, so-far-sound, none-reached, first-room, first-parted, first-rest, chain-ok, count-few, next-room, parted-more, parted-roll, parted-end, order-there}
+use Rattle.append_roll.proofs.Parts.{Entry, laid-at, due-after, Parted, so-far-sound, none-reached, first-room, first-parted, first-rest, chain-ok, count-few, next-room, parted-more, parted-roll, parted-end, order-there}
 use Rattle.append_roll.proofs.append_parts.Statement.{statement}
 use Rattle.append_roll.proofs.append_parts.Tie as tie
 
@@ -40,14 +38,11 @@ module _ (z : tie.Start Inv-loop μ-loop) where
   abbrev S : List ℕ
   S = z .args .roll .now
 
+  entry : Entry R P S
+  entry = record { pass = accepted R (length P) S (z .pre .0); words = search needs; long = search needs }
+
   pass : Accepted R (length P) S
-  pass = accepted R (length P) S (z .pre .0)
-
-  words : length (R .chain) ≡ 16
-  words = search needs
-
-  long : length (R .held) ≡ longestBlock
-  long = search needs
+  pass = entry .pass
 
   is : Sound R
   is = sounds R (pass .taken)
@@ -78,7 +73,7 @@ first-part-requires c κs =
       omega (arith, pass z .within, first-length e, le e),
       of .0,
       z .pre .1,
-      first-room (R z) (P z) (pass z .taken) (words z) (long z) (S z) (pass z) (first e) (next e) (le e),
+      first-room (R z) (P z) (entry z) (first e) (next e) (le e),
     )
 
 -- at the head of the loop
@@ -101,7 +96,7 @@ module _ (l : tie.At-loop Inv-loop μ-loop) where
   rest-first : (length (l .before .before .before .first-part .last .1 .1 .0) ≡ length (S from-start))
       × (due-after (R from-start) (P from-start) (first entered) (l .before .before .before .first-part .last .1 .1 .0) ≡ goal-of (R from-start) (P from-start) (S from-start))
   rest-first =
-      first-rest (R from-start) (P from-start) (pass from-start .taken) (words from-start) (long from-start) (S from-start) (pass from-start) (first entered) (next entered) (le entered) laid-first
+      first-rest (R from-start) (P from-start) (entry from-start) (first entered) (next entered) (le entered) laid-first
 
 -- a part to the next checkpoint
 module _ (c : tie.In-loop Inv-loop μ-loop) where
@@ -135,17 +130,17 @@ next-part-requires c κs =
     let z = start-of i in
     let p = i .before .loop .inv in (
       is z .word,
-      chain-ok (R z) (P z) (pass z .taken) (words z) (long z) (S z) (pass z) p,
+      chain-ok (R z) (P z) (entry z) p,
       omega (
         arith,
-        count-few (R z) (P z) (pass z .taken) (words z) (long z) (S z) (pass z) p,
+        count-few (R z) (P z) (entry z) p,
         given-length i,
         reaches-step i,
         pass z .within,
       ),
       p .stage .form,
       p .way,
-      next-room (R z) (P z) (pass z .taken) (words z) (long z) (S z) (pass z) p (reaches-step i),
+      next-room (R z) (P z) (entry z) p (reaches-step i),
     )
 
 loop-again : tie.Need-loop-again Inv-loop μ-loop
@@ -154,7 +149,7 @@ loop-again c =
     let i = n .before .before .before in
     let z = start-of i in
     let e = n .next-part .ensures in
-    parted-more (R z) (P z) (pass z .taken) (words z) (long z) (S z) (pass z) (i .before .loop .inv) (reaches-step i) (given i) (is-part i)
+    parted-more (R z) (P z) (entry z) (i .before .loop .inv) (reaches-step i) (given i) (is-part i)
     (ap (λ (q : ℕ). A i + q) (step-is (i .before))) (e .0) (e .1) (e .2) (e .3)
 
 -- the rest
@@ -173,7 +168,7 @@ module _ (c : tie.After-loop Inv-loop μ-loop) where
       → order ≡ appended (R Y) (take E (P Y))
   there order made =
       let p = c .before .loop .inv in
-      made ∙ order-there (R Y) (P Y) (pass Y .taken) (words Y) (long Y) E (p .stage .upTo) _ (p .place) (c .before .loop .p .chain) (p .reached)
+      made ∙ order-there (R Y) (P Y) (entry Y) E (p .stage .upTo) _ (p .place) (c .before .loop .p .chain) (p .reached)
 
 last-part-requires : tie.Need-last-part-requires Inv-loop μ-loop
 last-part-requires c κs =
@@ -183,13 +178,13 @@ last-part-requires c κs =
       omega (arith, ap length (rest-is l), length-drop (E l) (P z), p .stage .upTo, pass z .within),
       omega (
         arith,
-        count-few (R z) (P z) (pass z .taken) (words z) (long z) (S z) (pass z) p,
+        count-few (R z) (P z) (entry z) p,
         p .stage .upTo,
         pass z .within,
       ),
       λ order made.
           subst (λ (o : Record). sound o ≡ true) (sym (there l order made))
-          (so-far-sound (R z) (P z) (pass z .taken) (words z) (long z) (S z) (pass z) (E l) (p .stage .upTo)),
+          (so-far-sound (R z) (P z) (entry z) (E l) (p .stage .upTo)),
     )
 
 returns-2 : tie.Need-returns-2 Inv-loop μ-loop
@@ -200,8 +195,8 @@ returns-2 c =
     let made : Record = record { w = R z .w; n = R z .n; total = R z .total + E l; chain = l .before .loop .p .chain; held = heldOf []; split = R z .split } in
     let less : length (P z) < E l + step (R z .w) = omega (arith, p .stage .upTo, step-is (l .before)) in (
       c .last-part .ensures made refl
-          ∙ parted-end (R z) (P z) (pass z .taken) (words z) (long z) (S z) (pass z) p _ (rest-is l) (there l made refl),
-      parted-roll (R z) (P z) (pass z .taken) (words z) (long z) (S z) (pass z) p less
+          ∙ parted-end (R z) (P z) (entry z) p _ (rest-is l) (there l made refl),
+      parted-roll (R z) (P z) (entry z) p less
           ∙ rest-first (l .before) .1 ∙ accepted-call (R z) (P z) (S z) (sym (z .pre .0)) refl .1,
     )
 
@@ -217,7 +212,7 @@ append-parts-spec =
     let t = c .before .before in
     let z = t .before .before .before in (
       c .accepted .ensures,
-      none-reached (R z) (P z) (pass z .taken) (words z) (long z) (S z) (pass z) _ (t .to-checkpoint .ensures) (c .before .if1 .taken)
+      none-reached (R z) (P z) (entry z) _ (t .to-checkpoint .ensures) (c .before .if1 .taken)
           ∙ accepted-call (R z) (P z) (S z) (sym (z .pre .0)) refl .1,
     ))
     (λ c κs. tt)
@@ -227,7 +222,7 @@ append-parts-spec =
     let e = c .before .before .before .before .before .before in
     let z = begun e in
     let f = c .before .before .first-part .ensures in
-    first-parted (R z) (P z) (pass z .taken) (words z) (long z) (S z) (pass z) (first e) (next e) (le e) (f .0) (f .1) (f .2 _) (f .3))
+    first-parted (R z) (P z) (entry z) (first e) (next e) (le e) (f .0) (f .1) (f .2 _) (f .3))
     (λ c. c .loop .inv .stage .upTo)
     (λ c. record { fits = omega (arith, reaches c) })
     (λ c. omega arith)
