@@ -1,14 +1,9 @@
-//! Links the archive of block runs that is made for the benchmark alone and, if it is asked for, Crypto++.
+//! Links Crypto++, if it is asked for.
 
 use std::env;
 use std::process::Command;
 
 fn main() {
-    // `compare` says where the archives are.
-    let archives = env::var("DEP_LSH_KIOSK_ARCHIVES").unwrap();
-    println!("cargo::rerun-if-changed={archives}/libbench_runs.a");
-    println!("cargo::rustc-link-search=native={archives}");
-    println!("cargo::rustc-link-lib=static=bench_runs");
     if env::var_os("CARGO_FEATURE_CRYPTOPP").is_some() {
         link_cryptopp();
     }

@@ -82,16 +82,23 @@ static bool is_roll_of(const lsh_record *r, const uint8_t *roll, size_t roll_len
     return way.is_roll && way.count == checkpoints(r->w, r->total);
 }
 
-static lsh_outcome right_append_roll(const lsh_record *r, const uint8_t *piece, size_t piece_len, const uint8_t *roll, size_t roll_len)
+/* 3, 17 and 15, in this order, for a call that is in turn with this mark. */
+static uint32_t refusal_with_roll(const lsh_record *r, uint64_t mark, const uint8_t *roll, size_t roll_len)
 {
     if (!is_sound(r)) {
-        return refused(LSH_UNSOUND_RECORD, r);
+        return LSH_UNSOUND_RECORD;
     }
-    if (r->mark != 0) {
-        return refused(LSH_OUT_OF_TURN, r);
+    if (r->mark != mark) {
+        return LSH_OUT_OF_TURN;
     }
-    if (!is_roll_of(r, roll, roll_len)) {
-        return refused(LSH_BAD_ROLL, r);
+    return is_roll_of(r, roll, roll_len) ? LSH_ACCEPTED : LSH_BAD_ROLL;
+}
+
+static lsh_outcome right_append_roll(const lsh_record *r, const uint8_t *piece, size_t piece_len, const uint8_t *roll, size_t roll_len)
+{
+    uint32_t refusal = refusal_with_roll(r, 0, roll, roll_len);
+    if (refusal != LSH_ACCEPTED) {
+        return refused(refusal, r);
     }
     if (piece_len > LSH_MOST_BYTES - r->total) {
         return refused(LSH_TOO_LONG, r);
@@ -104,16 +111,8 @@ static lsh_outcome right_append_roll(const lsh_record *r, const uint8_t *piece, 
 
 static lsh_outcome right_rewind_roll(const lsh_record *r, uint64_t keep, const uint8_t *h, size_t h_len, const uint8_t *roll, size_t roll_len)
 {
-    if (!is_sound(r)) {
-        return refused(LSH_UNSOUND_RECORD, r);
-    }
-    if (r->mark != 0) {
-        return refused(LSH_OUT_OF_TURN, r);
-    }
-    if (!is_roll_of(r, roll, roll_len)) {
-        return refused(LSH_BAD_ROLL, r);
-    }
-    return right_rewind(r, keep, h, h_len);
+    uint32_t refusal = refusal_with_roll(r, 0, roll, roll_len);
+    return refusal == LSH_ACCEPTED ? right_rewind(r, keep, h, h_len) : refused(refusal, r);
 }
 
 /* ---- the roll after an accepted call ---- */

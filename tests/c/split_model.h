@@ -73,16 +73,8 @@ static lsh_outcome right_end(const lsh_record *r, uint64_t keep)
 /* The roll after it is that of unlink_past. */
 static lsh_outcome right_end_roll(const lsh_record *r, uint64_t keep, const uint8_t *roll, size_t roll_len)
 {
-    if (!is_sound(r)) {
-        return refused(LSH_UNSOUND_RECORD, r);
-    }
-    if (r->mark == 0) {
-        return refused(LSH_OUT_OF_TURN, r);
-    }
-    if (!is_roll_of(r, roll, roll_len)) {
-        return refused(LSH_BAD_ROLL, r);
-    }
-    return right_end(r, keep);
+    uint32_t refusal = refusal_with_roll(r, 1, roll, roll_len);
+    return refusal == LSH_ACCEPTED ? right_end(r, keep) : refused(refusal, r);
 }
 
 static lsh_outcome right_abandon(const lsh_record *r)

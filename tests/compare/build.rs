@@ -15,5 +15,4 @@ fn main() {
     println!("cargo::rustc-env=LSH_ARCHIVE={}", archive.display()); // for the test that looks into it
     println!("cargo::rustc-link-search=native={}", folder.display());
     println!("cargo::rustc-link-lib=static=lsh_kiosk");
-    println!("cargo::metadata=archives={}", folder.display());
 }

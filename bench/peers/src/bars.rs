@@ -1,6 +1,6 @@
 //! The ratios that are wanted of the module. They are printed and decide nothing.
 
-use crate::blocks::{APPEND, APPEND_ROLL, BACKWARD, FORWARD, REWIND, REWIND_STEPS};
+use crate::blocks::{APPEND_ROLL, BACKWARD, FORWARD, REWIND_STEPS};
 use crate::messages::{WHOLE_1_MIB, WHOLE_64_BYTES};
 use crate::peers::{CRYPTOPP, MODULE, REFERENCE};
 use crate::timing::{Rates, Task};
@@ -13,41 +13,29 @@ struct Bar {
     at_least: [(usize, f64); 2],
 }
 
-const BARS: [Bar; 8] = [
+const BARS: [Bar; 6] = [
     Bar {
-        what: "forward, as a multiple of lsh_ref",
+        what: "forward (Append), as a multiple of lsh_ref",
         work: FORWARD,
         to: Task { peer: REFERENCE, work: FORWARD },
         at_least: [(32, 1.15), (64, 1.25)],
     },
     Bar {
-        what: "backward, as a part of forward",
+        what: "backward (Rewind), as a part of forward",
         work: BACKWARD,
         to: Task { peer: MODULE, work: FORWARD },
         at_least: [(32, 0.9), (64, 0.9)],
     },
     Bar {
-        what: "Append, as a part of forward",
-        work: APPEND,
-        to: Task { peer: MODULE, work: FORWARD },
-        at_least: [(32, 0.95), (64, 0.95)],
-    },
-    Bar {
         what: "Append with a roll, as a part of Append",
         work: APPEND_ROLL,
-        to: Task { peer: MODULE, work: APPEND },
+        to: Task { peer: MODULE, work: FORWARD },
         at_least: [(32, 0.97), (64, 0.97)],
-    },
-    Bar {
-        what: "Rewind, as a part of Append",
-        work: REWIND,
-        to: Task { peer: MODULE, work: APPEND },
-        at_least: [(32, 0.9), (64, 0.9)],
     },
     Bar {
         what: "Rewind in steps (an aim), as a part of Rewind",
         work: REWIND_STEPS,
-        to: Task { peer: MODULE, work: REWIND },
+        to: Task { peer: MODULE, work: BACKWARD },
         at_least: [(32, 0.7), (64, 0.7)],
     },
     Bar {

@@ -1,9 +1,9 @@
-//! Whole blocks: the bare runs over them, and Append and Rewind, which add the keeping of a record to a run.
+//! Whole blocks: at one go, which is an Append or a Rewind for the module, and Append and Rewind in other ways.
 
 use crate::messages::hash_timing;
 use crate::peers::{
-    block_peers, cryptopp, digest_bits, largest_roll, module_append, module_append_pieces, module_append_roll,
-    module_rewind, module_rewind_steps, reference_backward, reference_forward, BlockPeer, Run,
+    block_peers, cryptopp, digest_bits, largest_roll, module_append_pieces, module_append_roll, module_rewind_steps,
+    reference_backward, reference_forward, BlockPeer, Run,
 };
 use crate::peers::{CRYPTOPP, MODULE, REFERENCE};
 use crate::table::Column::{self, OfPeer, OfWork, Rate};
@@ -14,10 +14,8 @@ use std::hint::black_box;
 
 pub const FORWARD: &str = "forward";
 pub const BACKWARD: &str = "backward";
-pub const APPEND: &str = "Append";
 pub const APPEND_ROLL: &str = "Append with a roll";
 pub const APPEND_PIECES: &str = "Append of 64 bytes each";
-pub const REWIND: &str = "Rewind";
 pub const REWIND_STEPS: &str = "Rewind in steps";
 
 pub const COLUMNS: [Column; 6] = [
@@ -29,21 +27,16 @@ pub const COLUMNS: [Column; 6] = [
     OfWork(BACKWARD, FORWARD),
 ];
 
-pub const RECORD_COLUMNS: [Column; 10] = [
-    Rate(APPEND),
-    Rate(FORWARD),
-    OfWork(APPEND, FORWARD),
+pub const RECORD_COLUMNS: [Column; 5] = [
     Rate(APPEND_ROLL),
-    OfWork(APPEND_ROLL, APPEND),
+    OfWork(APPEND_ROLL, FORWARD),
     Rate(APPEND_PIECES),
-    Rate(REWIND),
-    OfWork(REWIND, APPEND),
     Rate(REWIND_STEPS),
-    OfWork(REWIND_STEPS, REWIND),
+    OfWork(REWIND_STEPS, BACKWARD),
 ];
 
-/// Every peer reaches the chain of lsh_ref forward and comes back from it, and word 0 after each Append and each Rewind is
-/// that of the chain reached. A checkpoint is at the end of the input, so that the last one has that chain.
+/// Every peer reaches the chain of lsh_ref forward and comes back from it, and word 0 after an Append with a roll or in
+/// pieces and after a Rewind in steps is that of the chain reached. A checkpoint is at the end of the input, so that the last one has that chain.
 pub fn check_peers<W: Word>(input: &[u8]) {
     let w = W::BITS;
     let mut opening = vec![0; W::CHAIN_BYTES];
@@ -54,13 +47,11 @@ pub fn check_peers<W: Word>(input: &[u8]) {
         assert_eq!(chain_after(forward, &opening, input), reached, "{name}, forward, w = {w}");
         assert_eq!(chain_after(backward, &reached, input), opening, "{name}, backward, w = {w}");
     }
-    assert_eq!(module_append::<W>(input), first_word::<W>(&reached), "Append, w = {w}");
     assert_eq!(module_append_pieces::<W>(input), first_word::<W>(&reached), "Append in pieces, w = {w}");
     let mut roll = vec![0; largest_roll::<W>()];
     assert_eq!(module_append_roll::<W>(input, &mut roll), first_word::<W>(&reached), "Append with a roll, w = {w}");
     assert_eq!(shown(w as u64, &roll).last(), Some(&reached), "the last checkpoint, w = {w}");
     let back = chain_after(reference_backward::<W>, &vec![0; W::CHAIN_BYTES], input);
-    assert_eq!(module_rewind::<W>(input), first_word::<W>(&back), "Rewind, w = {w}");
     assert_eq!(module_rewind_steps::<W>(input), first_word::<W>(&back), "Rewind in steps, w = {w}");
 }
 
@@ -84,15 +75,11 @@ pub fn timings<W: Word>(input: &[u8]) -> Vec<Timing<'_>> {
     if let Some(hash) = cryptopp::<W>() {
         timings.push(hash_timing::<W>(Task { peer: CRYPTOPP, work: FORWARD }, input, input.len(), hash));
     }
-    let append = |input: &[u8]| _ = black_box(module_append::<W>(input));
-    timings.push(Timing::new::<W>(Task { peer: MODULE, work: APPEND }, input, append));
     let pieces = |input: &[u8]| _ = black_box(module_append_pieces::<W>(input));
     timings.push(Timing::new::<W>(Task { peer: MODULE, work: APPEND_PIECES }, input, pieces));
     let append_roll = |input: &[u8], roll: &mut [u8]| _ = black_box(module_append_roll::<W>(input, roll));
     let task = Task { peer: MODULE, work: APPEND_ROLL };
     timings.push(Timing::with_memory::<W>(task, input, largest_roll::<W>(), append_roll));
-    let rewind = |input: &[u8]| _ = black_box(module_rewind::<W>(input));
-    timings.push(Timing::new::<W>(Task { peer: MODULE, work: REWIND }, input, rewind));
     let steps = |input: &[u8]| _ = black_box(module_rewind_steps::<W>(input));
     timings.push(Timing::new::<W>(Task { peer: MODULE, work: REWIND_STEPS }, input, steps));
     timings

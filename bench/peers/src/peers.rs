@@ -2,8 +2,8 @@
 
 use compare::roll::{roll_bytes, MOST_SLOTS};
 use compare::{
-    append, append_roll, begin, block_backward, block_forward, end, hand_back, open, rewind, tag, tally, whole, Record,
-    ACCEPTED, DIGEST_PLACE, RECEIPT_BYTES,
+    append, append_roll, begin, block_backward, block_forward, end, hand_back, open, rewind, tag, tally, whole, Outcome,
+    Record, ACCEPTED, DIGEST_PLACE, RECEIPT_BYTES,
 };
 use lsh_ref::Word;
 
@@ -29,29 +29,20 @@ pub fn block_peers<W: Word>() -> [BlockPeer; 3] {
     ]
 }
 
-mod module {
-    pub type Run = unsafe extern "C" fn(chain: *mut u8, chain_len: usize, blocks: *const u8, blocks_len: usize) -> u32;
-
-    extern "C" {
-        pub fn bench_forward256(chain: *mut u8, chain_len: usize, blocks: *const u8, blocks_len: usize) -> u32;
-        pub fn bench_backward256(chain: *mut u8, chain_len: usize, blocks: *const u8, blocks_len: usize) -> u32;
-        pub fn bench_forward512(chain: *mut u8, chain_len: usize, blocks: *const u8, blocks_len: usize) -> u32;
-        pub fn bench_backward512(chain: *mut u8, chain_len: usize, blocks: *const u8, blocks_len: usize) -> u32;
-    }
-}
-
+/// One Append of the input to a record with this chain.
 fn module_forward<W: Word>(chain: &mut [u8], input: &[u8]) {
-    module_run(if W::BITS == 32 { module::bench_forward256 } else { module::bench_forward512 }, chain, input);
+    module_run::<W>(chain, 0, |record| append(record, input));
 }
 
+/// One Rewind of the input. One more block lies before it, so that any chain reached is taken.
 fn module_backward<W: Word>(chain: &mut [u8], input: &[u8]) {
-    module_run(if W::BITS == 32 { module::bench_backward256 } else { module::bench_backward512 }, chain, input);
+    module_run::<W>(chain, W::BLOCK_BYTES + input.len(), |record| rewind(record, 0, input));
 }
 
-fn module_run(run: module::Run, chain: &mut [u8], input: &[u8]) {
-    // SAFETY: each pointer comes with the length of its slice, and the slices cannot overlap.
-    let answer = unsafe { run(chain.as_mut_ptr(), chain.len(), input.as_ptr(), input.len()) };
-    assert_eq!(answer, ACCEPTED);
+fn module_run<W: Word>(chain: &mut [u8], total: usize, call: impl Fn(Record) -> Outcome) {
+    let outcome = call(record::<W>(total, lsh_ref::load_chain::<W>(chain).map(Word::to_u64)));
+    assert_eq!(outcome.number, ACCEPTED);
+    lsh_ref::store_chain(&outcome.next.chain.map(W::from_u64), chain);
 }
 
 fn calls_forward<W: Word>(chain: &mut [u8], input: &[u8]) {
@@ -84,12 +75,6 @@ pub fn reference_backward<W: Word>(chain: &mut [u8], input: &[u8]) {
     lsh_ref::store_chain(&words, chain);
 }
 
-/// Word 0 of the chain of a new record after an Append of the input.
-pub fn module_append<W: Word>(input: &[u8]) -> u64 {
-    let opened = open(W::BITS as u64, digest_bits::<W>()).next;
-    append(opened, input).next.chain[0]
-}
-
 /// Bytes of a roll with the most slots.
 pub fn largest_roll<W: Word>() -> usize {
     roll_bytes(W::BITS as u64, MOST_SLOTS)
@@ -110,25 +95,19 @@ pub fn module_append_pieces<W: Word>(input: &[u8]) -> u64 {
     outcome.next.chain[0]
 }
 
-/// Word 0 of the chain of a record after a Rewind of the input.
-pub fn module_rewind<W: Word>(input: &[u8]) -> u64 {
-    rewind(wound_back::<W>(input), 0, input).next.chain[0]
-}
-
-/// The same by a hand-back for each block, as a driver makes them.
+/// Word 0 of the chain of a record after a Rewind of the input by a hand-back for each block, as a driver makes them. It
+/// begins with a chain of zeros and one block before the input.
 pub fn module_rewind_steps<W: Word>(input: &[u8]) -> u64 {
-    let mut outcome = begin(wound_back::<W>(input), &[]);
+    let mut outcome = begin(record::<W>(W::BLOCK_BYTES + input.len(), [0; 16]), &[]);
     for block in input.chunks_exact(W::BLOCK_BYTES).rev() {
         outcome = hand_back(outcome.next, block);
     }
     end(outcome.next, 0).next.chain[0]
 }
 
-/// The record that these begin with. It has a chain of zeros and one block before the input, so that any chain reached is
-/// taken.
-fn wound_back<W: Word>(input: &[u8]) -> Record {
-    let total = (W::BLOCK_BYTES + input.len()) as u64;
-    Record::none_begun(W::BITS as u64, digest_bits::<W>(), total, [0; 16], [0; 256])
+/// A record of whole blocks.
+fn record<W: Word>(total: usize, chain: [u64; 16]) -> Record {
+    Record::none_begun(W::BITS as u64, digest_bits::<W>(), total as u64, chain, [0; 256])
 }
 
 /// How many of the receipts are firsts, and how many blanks.

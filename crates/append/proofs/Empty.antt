@@ -21,6 +21,7 @@ use Rattle.record.specs.Arrays.{Arrays}
 use Rattle.record.proofs.Held.{fill-lt, held-length}
 use Rattle.record.proofs.Lists.{zero-all}
 use Rattle.record.proofs.Sound.{Sound, sounds}
+use Rattle.record.proofs.InTurn.{in-turn}
 use Rattle.append.specs.Append.{appended, appendAccepted, appendCall}
 
 module _ (r : Record) (arrays : Arrays r) (ok : sound r ≡ true) where
@@ -71,4 +72,4 @@ module _ (r : Record) (arrays : Arrays r) (ok : sound r ≡ true) where
 
   pub append-empty : isBegun r ≡ false → _≡_ {A = Outcome} (appendCall r []) (record { number = 0; count = 0; next = r })
   unfolding appendCall
-  append-empty idle = rw (ok, idle, le-ltb limit (r .total + 0) (omega (arith, is .few))) accepted-empty
+  append-empty idle = in-turn r ok _ idle ∙ rw (le-ltb limit (r .total + 0) (omega (arith, is .few))) accepted-empty

@@ -20,6 +20,7 @@ use Rattle.record.specs.declared.Record.{Record}
 use Rattle.record.specs.Record.{heldOf, heldBytes, recordOf, refused}
 use Rattle.record.specs.Open.{opened}
 use Rattle.record.proofs.Strings.{record-sound, record-idle}
+use Rattle.record.proofs.InTurn.{in-turn}
 use Rattle.append.specs.Append.{appended, appendAccepted, appendCall}
 use Rattle.append.proofs.Held.{held-after}
 
@@ -73,7 +74,7 @@ module _ (w n : ℕ) (m p : List ℕ) (word : isWordSize w ≡ true) (digest : i
 
   by-limit : appendCall R p ≡ cond (ltb limit (R .total + length p)) (refused 5 R) (appendAccepted R p)
   unfolding appendCall
-  by-limit = rw (record-sound w n m word digest few, record-idle w n m)
+  by-limit = in-turn R (record-sound w n m word digest few) _ (record-idle w n m)
 
   pub append-over : limit < length m + length p → appendCall R p ≡ refused 5 R
   unfolding recordOf

@@ -4,3 +4,4 @@ pub mod Appending
 pub mod Joins
 pub mod Sound
 pub mod Empty
+pub mod Pieces

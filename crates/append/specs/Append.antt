@@ -1,6 +1,6 @@
 -- Append: the answer's number, the count of blocks and the record that follows.
 -- Assumes nothing.
-use mathlib.Core.Bool.{not, cond}
+use mathlib.Core.Bool.{cond}
 use mathlib.Core.List.{List, _++_}
 use Prim.Native.Nat.{ℕ, _+_, _-_, _/_}
 use lib.Dec.{ltb}
@@ -11,7 +11,8 @@ use Rattle.lsh.specs.Padding.{blocksOf, restOf}
 use Rattle.runs.specs.Limits.{limit}
 use Rattle.record.specs.declared.Record.{Record}
 use Rattle.record.specs.declared.Outcome.{Outcome}
-use Rattle.record.specs.Record.{heldOf, heldBytes, sound, isBegun, refused}
+use Rattle.record.specs.Record.{heldOf, heldBytes, isBegun, refused}
+use Rattle.record.specs.Turn.{inTurn}
 
 -- the record after a piece: the bytes held and the piece are one string, its whole blocks are run and its rest is held
 unfoldable pub appended : Record → List ℕ → Record
@@ -34,10 +35,9 @@ appendAccepted r piece =
       next = appended r piece;
     }
 
--- Append: 3 if the record is not sound, then 17 if a split rewind is begun, 5 if the order would pass the limit, else 0
+-- Append: out of turn while a split rewind is begun; 5 if the order would pass the limit, else 0
 unfoldable pub appendCall : Record → List ℕ → Outcome
 appendCall r piece =
-    cond (not (sound r)) (refused 3 r)
-    (cond (isBegun r) (refused 17 r)
+    inTurn r (isBegun r)
     (cond (ltb limit (r .total + length piece)) (refused 5 r)
-    (appendAccepted r piece)))
+    (appendAccepted r piece))

@@ -14,7 +14,7 @@ use record::Record;
 use runs::LONGEST_BLOCK;
 
 // A chain after whole blocks, how many there were, and the held bytes after them.
-struct Taken {
+struct Absorbed {
     chain: [u64; 16],
     count: u64,
     held: [u8; LONGEST_BLOCK],
@@ -24,11 +24,9 @@ struct Taken {
 pub fn append(r: Record, piece: &[u8]) -> Outcome
     ensures { λ o. ⌜ o ≡ appendCall r (now (piece .entry)) ⌝ }
 {
-    if !record::is_sound(r) {
-        return record::refused(3, r);
-    }
-    if record::is_begun(r) {
-        return record::refused(17, r);
+    let a = record::turn(r, record::is_begun(r));
+    if a != 0 {
+        return record::refused(a, r);
     }
     let total = r.total;
     if runs::LIMIT as u64 - total < piece.len() as u64 {
@@ -60,7 +58,7 @@ fn append_even(mut r: Record, piece: &[u8]) -> Outcome
     ensures { λ o. ⌜ o ≡ appendAccepted r (now (piece .entry)) ⌝ }
 {
     let chain = r.chain;
-    let t = take_whole(r.w, chain, piece);
+    let t = absorb(r.w, chain, piece);
     let c = t.chain;
     let h = t.held;
     r.total += piece.len() as u64;
@@ -104,7 +102,7 @@ fn append_long(mut r: Record, piece: &[u8]) -> Outcome
     let first = record::put(held, at, &piece[..room]);
     let begun = runs::forward(w, chain, &first[..size]);
     let filled = begun.chain;
-    let t = take_whole(w, filled, &piece[room..]);
+    let t = absorb(w, filled, &piece[room..]);
     let c = t.chain;
     let h = t.held;
     r.total += piece.len() as u64;
@@ -118,7 +116,7 @@ fn append_long(mut r: Record, piece: &[u8]) -> Outcome
 }
 
 // The whole blocks of the piece are run on the chain, and the rest of the piece is held.
-fn take_whole(w: u64, chain: [u64; 16], piece: &[u8]) -> Taken
+fn absorb(w: u64, chain: [u64; 16], piece: &[u8]) -> Absorbed
     requires { ⌜ (isWordSize w ≡ true) × Chain (sizeOf w) chain ⌝ }
     ensures { λ t. ⌜ (t .chain ≡ forwards (sizeOf w) (blocksOf (sizeOf w) (now (piece .entry))) chain)
         × (t .count ≡ length (now (piece .entry)) / blockBytes (sizeOf w))
@@ -129,7 +127,7 @@ fn take_whole(w: u64, chain: [u64; 16], piece: &[u8]) -> Taken
     let count = run.count;
     let at = count * runs::block_bytes(w);
     let held = record::hold(&piece[at..]);
-    Taken {
+    Absorbed {
         chain: c,
         count: count as u64,
         held: held,

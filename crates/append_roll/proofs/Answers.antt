@@ -1,25 +1,32 @@
 -- What the answer to an Append with a roll says, and the outcome and the roll by its number.
 -- Assumes nothing.
 use mathlib.Core.Path.{_≡_, refl, sym, ap, _∙_}
-use mathlib.Core.Bool.{Bool, true, false, not, cond}
-use mathlib.Core.List.{List}
-use Prim.Native.Nat.{ℕ, _+_, _-_, _≤_}
+use mathlib.Core.Bool.{true, false, cond}
+use mathlib.Core.List.{List, [], _∷_}
+use Prim.Native.Nat.{ℕ, _+_, _/_, _≤_}
 use native.Mathlib.Nat.{div-le-self}
 use native.Mathlib.Omega.{arith}
-use lib.Dec.{eqb, ltb}
+use lib.Dec.{ltb}
 use lib.ListN.{length}
-use borrow.Author.Tests.{eq-eqb, ne-eqb, ltb-false}
+use borrow.Author.Tests.{ltb-false}
 use Rattle.lsh.specs.WordSize.{sizeOf, blockBytes}
+use Rattle.answers.proofs.Tests.{test, passed}
+use Rattle.answers.proofs.First.{both-passed}
 use Rattle.runs.specs.Limits.{limit}
 use Rattle.record.specs.declared.Record.{Record}
+use Rattle.record.specs.declared.Outcome.{Outcome}
 use Rattle.record.specs.Record.{sound, isBegun, refused}
+use Rattle.record.proofs.InTurn.{answered-refused, answered-rest}
 use Rattle.append.specs.Append.{appendAccepted}
+use Rattle.checkpoints.specs.Due.{checkpointsAt}
 use Rattle.checkpoints.specs.Slots.{slotCount}
-use Rattle.checkpoints.specs.Roll.{links, checkpoints, isRollOf}
-use Rattle.checkpoints.specs.Checkpoints.{laidAfter}
+use Rattle.checkpoints.specs.Roll.{links, checkpoints, isRollOf, rollAnswer}
+use Rattle.checkpoints.specs.Checkpoints.{laidAll}
+use Rattle.checkpoints.proofs.Due.{due-many}
 use Rattle.checkpoints.proofs.Spacing.{no-fewer}
 use Rattle.checkpoints.proofs.Form.{roll-of}
-use Rattle.append_roll.specs.AppendRoll.{due, isFull, appendRollAnswer, appendRollCall, checkpointChain, appendedRoll}
+use Rattle.checkpoints.proofs.InTurn.{roll-passed, roll-changed, roll-stays}
+use Rattle.append_roll.specs.AppendRoll.{due, isFull, appendRollAnswer, appendRollCall, chainAt, appendedRoll}
 
 -- a call that is accepted passed every test
 pub record Accepted (r : Record) (size : ℕ) (roll : List ℕ) : Type 0 where
@@ -27,38 +34,38 @@ pub record Accepted (r : Record) (size : ℕ) (roll : List ℕ) : Type 0 where
   pub idle : isBegun r ≡ false
   pub rollOf : isRollOf r roll ≡ true
   pub within : r .total + size ≤ limit
-  pub room : length (links (sizeOf (r .w)) roll) + due r size ≤ slotCount (sizeOf (r .w)) (length roll)
+  pub room : length (links (sizeOf (r .w)) roll) + length (due r size) ≤ slotCount (sizeOf (r .w)) (length roll)
 
 pub accepted : (r : Record) (size : ℕ) (roll : List ℕ) → appendRollAnswer r size roll ≡ 0 → Accepted r size roll
 unfolding appendRollAnswer isFull
 accepted r size roll e =
     let z = sizeOf (r .w) in
-    let p = tests (sound r) (isBegun r) (isRollOf r roll) (ltb limit (r .total + size)) (ltb (slotCount z (length roll)) (length (links z roll) + due r size)) e in
+    let over = ltb limit (r .total + size) in
+    let full = isFull r size roll in
+    let both = both-passed (rollAnswer r (isBegun r) roll) (cond over 5 (cond full 16 0)) e in
+    let of = roll-passed r (isBegun r) roll (both .0) in
+    let p = passed (λ (k : ℕ). k) (test over 5 ∷ test full 16 ∷ []) 0 refl (both .1) .0 in
     record {
-      taken = p .0;
-      idle = p .1;
-      rollOf = p .2;
-      within = ltb-false limit (r .total + size) (p .3);
-      room = ltb-false (slotCount z (length roll)) (length (links z roll) + due r size) (p .4);
+      taken = of .0;
+      idle = of .1;
+      rollOf = of .2;
+      within = ltb-false limit (r .total + size) (p 0);
+      room = ltb-false (slotCount z (length roll)) (length (links z roll) + length (due r size)) (p 1);
     }
-  where
-    tests : (a i b c d : Bool) → _≡_ {A = ℕ} (cond (not a) 3 (cond i 17 (cond (not b) 15 (cond c 5 (cond d 16 0))))) 0
-        → (a ≡ true) × (i ≡ false) × (b ≡ true) × (c ≡ false) × (d ≡ false)
-    tests true false true false false e = (refl, refl, refl, refl, refl)
-    tests true false true false true e = absurd (omega arith)
-    tests true false true true d e = absurd (omega arith)
-    tests true false false c d e = absurd (omega arith)
-    tests true true b c d e = absurd (omega arith)
-    tests false i b c d e = absurd (omega arith)
 
 -- the links of a roll of the record and the checkpoints due are the checkpoints of the order with the piece
 pub full-is : (r : Record) (size : ℕ) (roll : List ℕ) → isRollOf r roll ≡ true
     → isFull r size roll ≡ ltb (slotCount (sizeOf (r .w)) (length roll)) (checkpoints (r .w) (r .total + size))
-unfolding isFull due
+unfolding isFull due checkpoints
 full-is r size roll e =
     let z = sizeOf (r .w) in
-    let many : length (links z roll) + (checkpoints (r .w) (r .total + size) - checkpoints (r .w) (r .total)) ≡ checkpoints (r .w) (r .total + size) =
-    omega (arith, roll-of r roll e .1, no-fewer (r .w) (r .total) (r .total + size) (omega arith)) in
+    let many : length (links z roll) + length (due r size) ≡ checkpoints (r .w) (r .total + size) =
+    omega (
+      arith,
+      roll-of r roll e .1,
+      due-many (r .total / blockBytes z) ((r .total + size) / blockBytes z),
+      no-fewer (r .w) (r .total) (r .total + size) (omega arith),
+    ) in
     ap (ltb (slotCount z (length roll))) many
 
 -- no more blocks are run than the order has bytes
@@ -68,20 +75,18 @@ few-blocks r p = omega (arith, div-le-self (r .total + length p) (blockBytes (si
 
 -- the roll with every checkpoint that is due
 abbrev pub goal-of : Record → List ℕ → List ℕ → List ℕ
-goal-of r piece roll = laidAfter (sizeOf (r .w)) (checkpointChain r piece) (checkpoints (r .w) (r .total)) (due r (length piece)) roll
+goal-of r piece roll = laidAll (sizeOf (r .w)) (checkpointsAt (chainAt r piece) (due r (length piece))) roll
 
 -- the outcome and the roll by the number of the answer
 module _ (r : Record) (piece roll : List ℕ) {a : ℕ} (is : a ≡ appendRollAnswer r (length piece) roll) where
   pub refused-call : (a ≡ 0 → ⊥) → (refused a r ≡ appendRollCall r piece roll) × (roll ≡ appendedRoll r piece roll)
-  unfolding appendRollCall appendedRoll
+  unfolding appendRollCall appendedRoll refused
   refused-call ne =
-      let n : eqb (appendRollAnswer r (length piece) roll) 0 ≡ false = ne-eqb (appendRollAnswer r (length piece) roll) 0 (λ e. ne (is ∙ e)) in
-      (rw n (ap (λ (k : ℕ). refused k r) is), rw n)
+      let call = answered-refused (appendRollAnswer r (length piece) roll) r (appendAccepted r piece) is ne in
+      (call, sym (roll-stays _ (goal-of r piece roll) roll (λ e. ne (ap (λ (o : Outcome). o .number) call ∙ e))))
 
-  pub accepted-roll : a ≡ 0 → goal-of r piece roll ≡ appendedRoll r piece roll
-  unfolding appendedRoll
-  accepted-roll e = rw (eq-eqb (appendRollAnswer r (length piece) roll) 0 (sym is ∙ e))
-
-  pub accepted-call : a ≡ 0 → appendAccepted r piece ≡ appendRollCall r piece roll
-  unfolding appendRollCall
-  accepted-call e = rw (eq-eqb (appendRollAnswer r (length piece) roll) 0 (sym is ∙ e))
+  pub accepted-call : a ≡ 0 → (appendAccepted r piece ≡ appendRollCall r piece roll) × (goal-of r piece roll ≡ appendedRoll r piece roll)
+  unfolding appendRollCall appendedRoll appendAccepted
+  accepted-call e =
+      let call = answered-rest (appendRollAnswer r (length piece) roll) r (appendAccepted r piece) (sym is ∙ e) in
+      (call, sym (roll-changed _ (goal-of r piece roll) roll (ap (λ (o : Outcome). o .number) (sym call))))

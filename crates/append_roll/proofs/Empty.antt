@@ -3,34 +3,42 @@
 use mathlib.Core.Path.{_≡_, refl, ap, _∙_}
 use mathlib.Core.Bool.{Bool, true, false, cond}
 use mathlib.Core.List.{List, []}
-use Prim.Native.Nat.{ℕ, _+_, _-_}
+use Prim.Native.Nat.{ℕ, _+_, _/_}
 use native.Mathlib.Nat.{add-zero}
 use native.Mathlib.Omega.{arith}
 use borrow.Author.Tests.{le-ltb}
 use lib.Dec.{eqb}
 use lib.ListN.{length}
-use Rattle.lsh.specs.WordSize.{sizeOf}
+use Rattle.lsh.specs.WordSize.{sizeOf, blockBytes}
+use Rattle.answers.specs.First.{first}
 use Rattle.runs.specs.Limits.{limit}
 use Rattle.record.specs.declared.Record.{Record}
 use Rattle.record.specs.declared.Outcome.{Outcome}
 use Rattle.record.specs.Record.{sound, isBegun}
+use Rattle.record.specs.Turn.{answered}
 use Rattle.record.specs.Arrays.{Arrays}
 use Rattle.record.proofs.Sound.{sounds}
 use Rattle.append.proofs.Empty.{accepted-empty}
+use Rattle.checkpoints.specs.Due.{dueNumbers}
 use Rattle.checkpoints.specs.Slots.{slotCount}
-use Rattle.checkpoints.specs.Roll.{links, checkpoints, isRollOf}
+use Rattle.checkpoints.specs.Roll.{links, isRollOf}
+use Rattle.checkpoints.specs.Checkpoints.{ifAccepted}
+use Rattle.checkpoints.proofs.Due.{due-none}
 use Rattle.checkpoints.proofs.Form.{linked, roll-of}
+use Rattle.checkpoints.proofs.InTurn.{roll-in-turn}
 use Rattle.append_roll.specs.AppendRoll.{due, isFull, appendRollAnswer, appendRollCall, appendedRoll}
 
 -- no checkpoint is due
-none-due : (r : Record) → due r 0 ≡ 0
+none-due : (r : Record) → due r 0 ≡ []
 unfolding due
-none-due r = ap (λ (k : ℕ). checkpoints (r .w) k - checkpoints (r .w) (r .total)) (add-zero (r .total)) ∙ omega arith
+none-due r =
+    let k : ℕ = r .total / blockBytes (sizeOf (r .w)) in
+    ap (λ (t : ℕ). dueNumbers k (t / blockBytes (sizeOf (r .w)))) (add-zero (r .total)) ∙ due-none k k (omega arith)
 
 -- whatever the answer is
 pub roll-empty : (r : Record) (roll : List ℕ) → appendedRoll r [] roll ≡ roll
-unfolding appendedRoll
-roll-empty r roll = rw (none-due r) (either (eqb (appendRollAnswer r 0 roll) 0))
+unfolding appendedRoll ifAccepted
+roll-empty r roll = rw (none-due r) (either (eqb (appendRollCall r [] roll .number) 0))
   where
     either : (b : Bool) → cond b roll roll ≡ roll
     either true = refl
@@ -41,10 +49,10 @@ room-empty : (r : Record) (roll : List ℕ) → isRollOf r roll ≡ true → isF
 unfolding isFull
 room-empty r roll of =
     let z = sizeOf (r .w) in
-    le-ltb (slotCount z (length roll)) (length (links z roll) + due r 0) (omega (arith, none-due r, linked z roll (roll-of r roll of .0) .few))
+    le-ltb (slotCount z (length roll)) (length (links z roll) + length (due r 0)) (omega (arith, ap length (none-due r), linked z roll (roll-of r roll of .0) .few))
 
 pub append-roll-empty : (r : Record) → Arrays r → sound r ≡ true → isBegun r ≡ false → (roll : List ℕ) → isRollOf r roll ≡ true
     → _≡_ {A = Outcome} (appendRollCall r [] roll) (record { number = 0; count = 0; next = r })
-unfolding appendRollCall appendRollAnswer
+unfolding appendRollCall appendRollAnswer first answered
 append-roll-empty r arrays ok idle roll of =
-    rw (ok, idle, of, le-ltb limit (r .total + 0) (omega (arith, sounds r ok .few)), room-empty r roll of) (accepted-empty r arrays ok)
+    rw (roll-in-turn r (isBegun r) roll ok idle, of, le-ltb limit (r .total + 0) (omega (arith, sounds r ok .few)), room-empty r roll of) (accepted-empty r arrays ok)

@@ -1,20 +1,21 @@
 -- An Append in parts that end at checkpoints: what is done after at bytes of the piece, part by part, and what it comes to at the end.
 -- Assumes nothing.
 use mathlib.Core.Path.{_≡_, refl, sym, ap, ap₂, _∙_, subst}
-use mathlib.Core.Bool.{true, not}
-use mathlib.Core.List.{List, [], _++_, append-assoc}
-use Prim.Native.Nat.{ℕ, suc, _+_, _-_, _*_, _/_, _%_, _≤_, _<_, zero-le}
-use native.Mathlib.Nat.{add-zero, zero-add, add-assoc, suc-mul, mul-assoc, mul-mod-left, mul-div-cancel, mul-add-div-right, add-mul-div-right, div-add-mod', div-le-self, le-div-iff-mul-le}
-use native.Mathlib.Numerals.{add-one}
+use mathlib.Core.Bool.{true}
+use mathlib.Core.List.{List, [], _∷_, _++_, append-assoc}
+use Prim.Native.Nat.{ℕ, _+_, _-_, _*_, _/_, _%_, _≤_, _<_, zero-le}
+use native.Mathlib.Nat.{add-zero, add-assoc, mul-assoc, mul-mod-left, mul-div-cancel, mul-add-div-right, add-mul-div-right, div-add-mod', div-le-self}
 use native.Mathlib.Omega.{arith}
 use lib.ListN.{length, take, drop, length-append, length-drop, take-append-drop}
 use lib.Seq.{length-take-le, take-add, take-all, take-length}
 use Rattle.lsh.specs.WordSize.{WordSize, sizeOf, blockBytes}
 use Rattle.lsh.specs.Block.{Chain, forwards}
-use Rattle.lsh.specs.Padding.{firstBlocks, blocksOf, restOf}
+use Rattle.lsh.specs.Padding.{blocksOf, restOf}
+use Rattle.lsh.specs.Chains.{chainAfter}
 use Rattle.lsh.proofs.Figures.{block-some}
 use Rattle.lsh.proofs.Bytes.{octets}
-use Rattle.lsh.proofs.Padding.{firstBlocks-front, length-rest, rest-none}
+use Rattle.lsh.proofs.Padding.{length-rest, rest-none}
+use Rattle.lsh.proofs.Chains.{after-all, after-front}
 use Rattle.runs.specs.Limits.{longestBlock}
 use Rattle.record.specs.declared.Record.{Record}
 use Rattle.record.specs.declared.Outcome.{Outcome}
@@ -26,13 +27,15 @@ use Rattle.append.proofs.Joins.{append-joins}
 use Rattle.append.proofs.Sound.{appended-chain, appended-sound}
 use Rattle.roll.specs.declared.Way.{Way}
 use Rattle.checkpoints.specs.Slots.{slotCount}
-use Rattle.checkpoints.specs.Roll.{links, isRoll, spacing, checkpoints}
-use Rattle.checkpoints.specs.Checkpoints.{laid, laidAfter}
+use Rattle.checkpoints.specs.Due.{checkpointsAt, spacing, dueNumbers}
+use Rattle.checkpoints.specs.Roll.{links, isRoll, checkpoints}
+use Rattle.checkpoints.specs.Checkpoints.{laid, laidAll}
 use Rattle.roll.specs.Way.{wayOf}
-use Rattle.checkpoints.proofs.Spacing.{step, at-checkpoint, blocks-at, unreached, no-fewer}
+use Rattle.checkpoints.proofs.Due.{due-next, due-none}
+use Rattle.checkpoints.proofs.Spacing.{step, at-checkpoint, blocks-at, unreached, no-fewer-blocks, no-fewer}
 use Rattle.checkpoints.proofs.Form.{roll-of}
 use Rattle.checkpoints.proofs.Shown.{laid-size, laid-links, laid-roll}
-use Rattle.append_roll.specs.AppendRoll.{due, checkpointChain}
+use Rattle.append_roll.specs.AppendRoll.{due, chainAt}
 use Rattle.append_roll.proofs.Answers.{Accepted, goal-of}
 
 module _ (r : Record) (piece : List ℕ) where
@@ -45,22 +48,31 @@ module _ (r : Record) (piece : List ℕ) where
   abbrev Q : ℕ
   Q = step (r .w)
 
-  -- the record after at bytes of the piece, and how many checkpoints there are then
+  -- the record after at bytes of the piece, and how many whole blocks and checkpoints there are then
   abbrev so-far : ℕ → Record
   so-far at = appended r (take at piece)
+
+  abbrev blocks-after : ℕ → ℕ
+  blocks-after at = (r .total + at) / B
 
   abbrev have : ℕ → ℕ
   have at = checkpoints (r .w) (r .total + at)
 
-  -- the roll s with the checkpoints that are still due after at bytes
+  -- the roll s with the checkpoint after at bytes laid, and with those that are still due then
+  abbrev pub laid-at : ℕ → List ℕ → List ℕ
+  laid-at at s = laid Z (record { number = blocks-after at; chain = so-far at .chain }) s
+
+  abbrev left : ℕ → List ℕ
+  left at = dueNumbers (blocks-after at) (blocks-after (length piece))
+
   abbrev pub due-after : ℕ → List ℕ → List ℕ
-  due-after at s = laidAfter Z (checkpointChain r piece) (have at) (have (length piece) - have at) s
+  due-after at s = laidAll Z (checkpointsAt (chainAt r piece) (left at)) s
 
   -- the roll after at bytes, where it was start after some
   pub record Stage (start : ℕ) (from : List ℕ) (at : ℕ) (now : List ℕ) : Type 0 where
     pub upTo : at ≤ length piece
     pub form : isRoll Z now ≡ true
-    pub many : length (links Z now) ≡ have at
+    pub room : length (links Z now) + length (left at) ≤ slotCount Z (length now)
     pub same : length now ≡ length from
     pub rest : due-after at now ≡ due-after start from
 
@@ -73,30 +85,21 @@ module _ (r : Record) (piece : List ℕ) where
     pub place : r .total + at ≡ have at * Q
 
   module _ (ok : sound r ≡ true) (words : length (r .chain) ≡ 16) (long : length (r .held) ≡ longestBlock) where
-    -- more bytes have no fewer blocks
-    blocks-more : (a b : ℕ) → a / B ≤ (a + b) / B
-    blocks-more a b = le-div-iff-mul-le (block-some (r .w)) .1 (omega (arith, div-add-mod' a B))
-
-    -- the chain after the first bytes of a piece is that of the first blocks of the order with the piece
-    chain-front : (p q : List ℕ)
-        → appended r p .chain ≡ forwards Z (firstBlocks Z ((r .total + length p) / B - r .total / B) (heldBytes r ++ (p ++ q))) (r .chain)
-    unfolding appended blocksOf
+    -- the chain after the first bytes of a piece is that of the order's whole blocks there
+    chain-front : (p q : List ℕ) → appended r p .chain ≡ chainAt r (p ++ q) ((r .total + length p) / B)
+    unfolding appended chainAt
     chain-front p q =
         let whole : List ℕ = heldBytes r ++ p in
         let n : length whole / B ≡ (r .total + length p) / B - r .total / B =
         omega (arith, ap (λ (k : ℕ). k / B) (total-is r long p) ∙ mul-add-div-right (block-some (r .w)) (r .total / B) (length whole)) in
         let few : length whole / B * B ≤ length whole = omega (arith, div-add-mod' (length whole) B) in
-        ap (λ (bs : List (List ℕ)). forwards Z bs (r .chain))
-        (sym (firstBlocks-front Z (length whole / B) whole q few) ∙ ap₂ (firstBlocks Z) n (append-assoc (heldBytes r) p q))
+        sym (after-front Z (r .chain) whole q (length whole / B) few ∙ after-all Z (r .chain) whole)
+        ∙ ap₂ (chainAfter Z (r .chain)) (append-assoc (heldBytes r) p q) n
 
-    -- the chain at a checkpoint
-    chain-there : (at k : ℕ) → at ≤ length piece → r .total + at ≡ k * Q → so-far at .chain ≡ checkpointChain r piece k
-    unfolding checkpointChain
-    chain-there at k le e =
+    chain-there : (at : ℕ) → at ≤ length piece → so-far at .chain ≡ chainAt r piece (blocks-after at)
+    chain-there at le =
         chain-front (take at piece) (drop at piece)
-        ∙ ap₂ (λ (n : ℕ) (s : List ℕ). forwards Z (firstBlocks Z (n - r .total / B) (heldBytes r ++ s)) (r .chain))
-        (ap (λ (n : ℕ). n / B) (ap (λ (n : ℕ). r .total + n) (length-take-le at piece le) ∙ e) ∙ blocks-at (r .w) k)
-        (take-append-drop at piece)
+        ∙ ap₂ (chainAt r) (take-append-drop at piece) (ap (λ (n : ℕ). (r .total + n) / B) (length-take-le at piece le))
 
     -- at a checkpoint no byte is held
     module _ (at : ℕ) (le : at ≤ length piece) (k : ℕ) (place : r .total + at ≡ k * Q) where
@@ -144,142 +147,111 @@ module _ (r : Record) (piece : List ℕ) where
       unfolding appendAccepted appended
       part-count =
           rw (length-take-le at piece (omega arith), part-length)
-          (omega (arith, blocks-more (r .total) at, blocks-more (r .total + at) size, ap (λ (n : ℕ). n / B) (add-assoc (r .total) at size)))
+          (omega (arith, no-fewer-blocks (r .w) (r .total) (r .total + at) (omega arith), no-fewer-blocks (r .w) (r .total + at) (r .total + at + size) (omega arith), ap (λ (n : ℕ). n / B) (add-assoc (r .total) at size)))
 
     module _ (roll : List ℕ) (pass : Accepted r (length piece) roll) where
-      roll-parts : (isRoll Z roll ≡ true) × (length (links Z roll) ≡ checkpoints (r .w) (r .total))
-      roll-parts = roll-of r roll (pass .rollOf)
-
-      -- all checkpoints have room
-      room : have (length piece) ≤ slotCount Z (length roll)
+      start-left : left 0 ≡ due r (length piece)
       unfolding due
-      room = omega (arith, pass .room, roll-parts .1, no-fewer (r .w) (r .total) (r .total + length piece) (omega arith))
-
-      start-is : have 0 ≡ checkpoints (r .w) (r .total)
-      start-is = ap (checkpoints (r .w)) (add-zero (r .total))
+      start-left = ap (λ (n : ℕ). dueNumbers (n / B) (blocks-after (length piece))) (add-zero (r .total))
 
       -- before the piece, and where the first checkpoint is not reached
       stage-none : Stage 0 roll 0 roll
-      stage-none = record { upTo = zero-le; form = roll-parts .0; many = roll-parts .1 ∙ sym start-is; same = refl; rest = refl }
+      stage-none =
+          record { upTo = zero-le; form = roll-of r roll (pass .rollOf) .0; room = omega (arith, pass .room, ap length start-left); same = refl; rest = refl }
 
       goal-is : due-after 0 roll ≡ goal-of r piece roll
-      unfolding due
-      goal-is = ap (λ (k : ℕ). laidAfter Z (checkpointChain r piece) k (have (length piece) - k) roll) start-is
+      goal-is = ap (λ (l : List ℕ). laidAll Z (checkpointsAt (chainAt r piece) l) roll) start-left
 
       -- the record so far is taken by Append, with what is left of the piece
       pub so-far-sound : (at : ℕ) → at ≤ length piece → sound (so-far at) ≡ true
       so-far-sound at le =
           appended-sound r ok words long (take at piece) (pass .idle) (omega (arith, length-take-le at piece le, pass .within))
 
-      module _ {start : ℕ} {from : List ℕ} (long-from : length from ≡ length roll) {at : ℕ} {now : List ℕ} (p : Stage start from at now) where
-        abbrev k : ℕ
-        k = have at
+      -- the next checkpoint is after end bytes
+      module _ {start : ℕ} {from : List ℕ} {at : ℕ} {now : List ℕ} (p : Stage start from at now) (end : ℕ) (next : r .total + end ≡ (have at + 1) * Q) where
+        have-next : have end ≡ have at + 1
+        have-next = ap (checkpoints (r .w)) next ∙ at-checkpoint (r .w) (have at + 1)
 
-        -- the next checkpoint is reached
-        module _ (size : ℕ) (le : at + size ≤ length piece) (next : r .total + (at + size) ≡ (k + 1) * Q) where
-          have-next : have (at + size) ≡ k + 1
-          have-next = ap (checkpoints (r .w)) next ∙ at-checkpoint (r .w) (k + 1)
+        place-next : r .total + end ≡ have end * Q
+        place-next = next ∙ ap (λ (n : ℕ). n * Q) (sym have-next)
 
-          more : k + 1 ≤ have (length piece)
-          more = omega (arith, have-next, no-fewer (r .w) (r .total + (at + size)) (r .total + length piece) (omega arith))
+        -- and is reached
+        module _ (le : end ≤ length piece) where
+          left-next : left at ≡ blocks-after end ∷ left end
+          unfolding checkpoints
+          left-next =
+              due-next (blocks-after at) (blocks-after (length piece)) (ap (λ (n : ℕ). n / B) next ∙ blocks-at (r .w) (have at + 1) ∙ omega arith)
+              (omega (arith, have-next, no-fewer (r .w) (r .total + end) (r .total + length piece) (omega arith)))
 
           part-room : length (links Z now) < slotCount Z (length now)
-          part-room = rw (p .same ∙ long-from) (omega (arith, p .many, more, room))
+          part-room = omega (arith, p .room, ap length left-next)
 
-          abbrev t : List ℕ
-          t = so-far (at + size) .chain
-
-          t-chain : Chain Z t
-          t-chain = appended-chain r ok words long (take (at + size) piece)
-
-          after : (left : ℕ) → have (length piece) - k ≡ suc left → laidAfter Z (checkpointChain r piece) (suc k) left (laid Z t now) ≡ due-after start from
-          after left e =
-              ap (λ (c : List ℕ). laidAfter Z (checkpointChain r piece) (suc k) left (laid Z c now))
-              (chain-there (at + size) (suc k) le (next ∙ ap (λ (n : ℕ). n * Q) (add-one k)))
-              ∙ ap (λ (d : ℕ). laidAfter Z (checkpointChain r piece) k d now) (sym e)
-              ∙ p .rest
-
-          stage-more : {now' : List ℕ} → now' ≡ laid Z t now → Stage start from (at + size) now'
-          stage-more {now'} laid-is =
+          stage-more : {now' : List ℕ} → now' ≡ laid-at end now → Stage start from end now'
+          stage-more {now'} is =
               let ok8 = octets (r .w) in
-              let left : ℕ = have (length piece) - have (at + size) in
-              let down : have (length piece) - k ≡ suc left = omega (arith, have-next, more) in
+              let there = chain-there end le in
+              let t-chain = appended-chain r ok words long (take end piece) in
+              let size-is : length now' ≡ length now = ap length is ∙ laid-size Z ok8 now (p .form) part-room _ t-chain in
+              let many : length (links Z now') ≡ length (links Z now) + 1 =
+              ap (λ (s : List ℕ). length (links Z s)) is ∙ ap length (laid-links Z ok8 now (p .form) part-room _ t-chain) ∙ length-append (links Z now) _ in
               record {
                 upTo = le;
-                form = ap (isRoll Z) laid-is ∙ laid-roll Z ok8 now (p .form) part-room t t-chain;
-                many =
-                    ap (λ (s : List ℕ). length (links Z s)) laid-is
-                    ∙ ap length (laid-links Z ok8 now (p .form) part-room t t-chain)
-                    ∙ length-append (links Z now) _
-                    ∙ ap (λ (n : ℕ). n + 1) (p .many)
-                    ∙ sym have-next;
-                same = ap length laid-is ∙ laid-size Z ok8 now (p .form) part-room t t-chain ∙ p .same;
+                form = ap (isRoll Z) is ∙ laid-roll Z ok8 now (p .form) part-room _ t-chain;
+                room = omega (arith, p .room, many, ap length left-next, ap (slotCount Z) size-is);
+                same = size-is ∙ p .same;
                 rest =
-                    ap₂ (λ (j : ℕ) (s : List ℕ). laidAfter Z (checkpointChain r piece) j left s) (have-next ∙ add-one k) laid-is ∙ after left down;
+                    ap (due-after end) (is ∙ ap (λ (c : List ℕ). laid Z (record { number = blocks-after end; chain = c }) now) there)
+                    ∙ ap (λ (l : List ℕ). laidAll Z (checkpointsAt (chainAt r piece) l) now) (sym left-next)
+                    ∙ p .rest;
               }
 
-          place-next : r .total + (at + size) ≡ have (at + size) * Q
-          place-next = next ∙ ap (λ (n : ℕ). n * Q) (sym have-next)
-
-        -- no further one is reached
-        stage-end : (size : ℕ) → length piece < at + size → r .total + (at + size) ≡ (k + 1) * Q → now ≡ due-after start from
-        stage-end size less next =
-            let none-left : have (length piece) - k ≡ 0 =
-            omega (
-              arith,
-              unreached (r .w) (k + 1) (r .total + length piece) (omega arith),
-              no-fewer (r .w) (r .total + at) (r .total + length piece) (omega (arith, p .upTo)),
-            ) in
-            ap (λ (d : ℕ). laidAfter Z (checkpointChain r piece) k d now) (sym none-left) ∙ p .rest
+        -- or is not
+        stage-end : length piece < end → now ≡ due-after start from
+        unfolding checkpoints
+        stage-end less =
+            let none-left : left at ≡ [] =
+            due-none (blocks-after at) (blocks-after (length piece)) (omega (arith, unreached (r .w) (have at + 1) (r .total + length piece) (omega arith))) in
+            ap (λ (l : List ℕ). laidAll Z (checkpointsAt (chainAt r piece) l) now) (sym none-left) ∙ p .rest
 
       -- the first part
       module _ (first : ℕ) (next : r .total + first ≡ (checkpoints (r .w) (r .total) + 1) * Q) where
-        next-first : r .total + (0 + first) ≡ (have 0 + 1) * Q
-        next-first = ap (λ (n : ℕ). r .total + n) (zero-add first) ∙ next ∙ ap (λ (n : ℕ). (n + 1) * Q) (sym start-is)
+        next-first : r .total + first ≡ (have 0 + 1) * Q
+        next-first = next ∙ ap (λ (n : ℕ). (checkpoints (r .w) n + 1) * Q) (sym (add-zero (r .total)))
 
         -- it is longer than the piece
         pub none-reached : length piece < first → roll ≡ goal-of r piece roll
-        none-reached less = stage-end refl stage-none first (omega arith) next-first ∙ goal-is
+        none-reached less = stage-end stage-none first next-first less ∙ goal-is
 
         module _ (le : first ≤ length piece) where
-          reach : 0 + first ≤ length piece
-          reach = omega arith
-
           pub first-room : length (links Z roll) < slotCount Z (length roll)
-          first-room = part-room refl stage-none first reach next-first
+          first-room = part-room stage-none first next-first le
 
-          first-stage : {now : List ℕ} → now ≡ laid Z (so-far first .chain) roll → Stage 0 roll first now
-          first-stage {now} el =
-              let zero-first : 0 + first ≡ first = zero-add first in
-              subst (λ (n : ℕ). Stage 0 roll n now) zero-first
-              (stage-more refl stage-none first reach next-first (el ∙ ap (λ (n : ℕ). laid Z (so-far n .chain) roll) (sym zero-first)))
+          first-stage : {now : List ℕ} → now ≡ laid-at first roll → Stage 0 roll first now
+          first-stage = stage-more stage-none first next-first le
 
           pub first-parted : {chain : List ℕ} {count : ℕ} {known : Way} {now : List ℕ}
               → chain ≡ so-far first .chain → count ≡ appendAccepted r (take first piece) .count
-              → now ≡ laid Z (so-far first .chain) roll → known ≡ wayOf Z now
+              → now ≡ laid-at first roll → known ≡ wayOf Z now
               → Parted first now chain count known first now
           unfolding appendAccepted
           first-parted {chain} {count} {known} {now} ec en el ek =
               let s : Stage 0 roll first now = first-stage el in
               record {
-                stage = record { upTo = le; form = s .form; many = s .many; same = refl; rest = refl };
+                stage = record { upTo = le; form = s .form; room = s .room; same = refl; rest = refl };
                 reached = ec;
                 blocks = en ∙ ap (λ (n : ℕ). (r .total + n) / B - r .total / B) (length-take-le first piece le);
                 way = ek;
-                place = subst (λ (n : ℕ). r .total + n ≡ have n * Q) (zero-add first) (place-next refl stage-none first reach next-first);
+                place = place-next stage-none first next-first;
               }
 
           -- what is due then gives the roll that is wanted
-          pub first-rest : {now : List ℕ} → now ≡ laid Z (so-far first .chain) roll → (length now ≡ length roll) × (due-after first now ≡ goal-of r piece roll)
+          pub first-rest : {now : List ℕ} → now ≡ laid-at first roll → (length now ≡ length roll) × (due-after first now ≡ goal-of r piece roll)
           first-rest el = (first-stage el .same, first-stage el .rest ∙ goal-is)
 
       -- the further parts
-      module _ {start : ℕ} {from : List ℕ} (long-from : length from ≡ length roll)
-          {chain : List ℕ} {count : ℕ} {known : Way} {at : ℕ} {now : List ℕ} (p : Parted start from chain count known at now) where
+      module _ {start : ℕ} {from : List ℕ} {chain : List ℕ} {count : ℕ} {known : Way} {at : ℕ} {now : List ℕ} (p : Parted start from chain count known at now) where
         next-place : r .total + (at + Q) ≡ (have at + 1) * Q
-        next-place =
-            sym (add-assoc (r .total) at Q) ∙ ap (λ (n : ℕ). n + Q) (p .place)
-            ∙ sym (ap (λ (n : ℕ). n * Q) (add-one (have at)) ∙ suc-mul (have at) Q)
+        next-place = omega (arith, p .place)
 
         pub chain-ok : Chain Z chain
         chain-ok = subst (Chain Z) (sym (p .reached)) (appended-chain r ok words long (take at piece))
@@ -289,7 +261,7 @@ module _ (r : Record) (piece : List ℕ) where
 
         module _ (le : at + Q ≤ length piece) where
           pub next-room : length (links Z now) < slotCount Z (length now)
-          next-room = part-room long-from (p .stage) Q le next-place
+          next-room = part-room (p .stage) (at + Q) next-place le
 
           -- a part is given, and its blocks run on the chain
           module _ (given : List ℕ) (is-part : given ≡ part at Q le) where
@@ -303,14 +275,15 @@ module _ (r : Record) (piece : List ℕ) where
                 → end ≡ at + Q
                 → chain' ≡ forwards Z (blocksOf Z given) chain
                 → count' ≡ count + length given / B
-                → now' ≡ laid Z chain' now
+                → ((k : ℕ) → now' ≡ laid Z (record { number = k; chain = chain' }) now)
                 → known' ≡ wayOf Z now'
                 → Parted start from chain' count' known' end now'
             parted-more {end} {chain'} {count'} {known'} {now'} ee ec en el ek =
                 let there = ec ∙ chain-is-next in
                 subst (λ (n : ℕ). Parted start from chain' count' known' n now') (sym ee)
                 (record {
-                  stage = stage-more long-from (p .stage) Q le next-place (el ∙ ap (λ (c : List ℕ). laid Z c now) there);
+                  stage = stage-more (p .stage) (at + Q) next-place le
+                      (el (blocks-after (at + Q)) ∙ ap (λ (c : List ℕ). laid Z (record { number = blocks-after (at + Q); chain = c }) now) there);
                   reached = there;
                   blocks =
                       en
@@ -320,17 +293,17 @@ module _ (r : Record) (piece : List ℕ) where
                         ap (λ (g : List ℕ). length g / B) is-part,
                         ap (λ (n : ℕ). n / B) (part-length at Q le),
                         mul-div-cancel spacing (block-some (r .w)),
-                        blocks-more (r .total) at,
+                        no-fewer-blocks (r .w) (r .total) (r .total + at) (omega arith),
                         ap (λ (n : ℕ). n / B) (sym (add-assoc (r .total) at Q)),
                         add-mul-div-right (r .total + at) spacing (block-some (r .w)),
                       );
                   way = ek;
-                  place = place-next long-from (p .stage) Q le next-place;
+                  place = place-next (p .stage) (at + Q) next-place;
                 })
 
         -- the end
         pub parted-roll : length piece < at + Q → now ≡ due-after start from
-        parted-roll less = stage-end long-from (p .stage) Q less next-place
+        parted-roll less = stage-end (p .stage) (at + Q) next-place less
 
         pub parted-end : (rest : List ℕ) → rest ≡ drop at piece → {order : Record} → order ≡ so-far at
             → _≡_ {A = Outcome}

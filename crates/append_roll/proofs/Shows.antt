@@ -1,29 +1,47 @@
--- What a roll shows after an Append, for every record and roll that it takes: the chains that it showed, and behind them those of the checkpoints due.
--- A slot that is not linked then keeps its bytes.
+-- What a roll shows after an Append, for every record and roll that it takes: the checkpoints that it showed, and behind them those that are due. A slot
+-- that is not linked then keeps its bytes.
 -- Assumes nothing.
-use mathlib.Core.Path.{_≡_, sym, ap, _∙_}
-use mathlib.Core.Bool.{false}
-use mathlib.Core.List.{List, [], _∷_, _++_, append-assoc, append-nil}
-use Prim.Native.Nat.{ℕ, suc, _+_, _-_, _≤_, _<_}
+use mathlib.Core.Path.{_≡_, refl, sym, ap, subst}
+use mathlib.Core.Bool.{true, false}
+use mathlib.Core.List.{List, _++_}
+use Prim.Native.Nat.{ℕ, _+_, _-_, _/_, _≤_, _<_}
+use native.Mathlib.Decide.{ℕ-discrete}
 use native.Mathlib.Omega.{arith}
 use lib.ListN.{length}
-use borrow.Author.Tests.{eq-eqb, ne-eqb}
-use native.Mathlib.Decide.{ℕ-discrete}
-use Rattle.lsh.specs.WordSize.{WordSize, sizeOf}
+use Rattle.lsh.specs.WordSize.{WordSize, sizeOf, blockBytes}
 use Rattle.lsh.specs.Block.{Chain}
 use Rattle.lsh.proofs.Figures.{amounts}
-use Rattle.lsh.proofs.Blocks.{forwards-chain}
 use Rattle.lsh.proofs.Bytes.{octets}
+use Rattle.lsh.proofs.Chains.{after-chain}
 use Rattle.record.specs.declared.Record.{Record}
-use Rattle.record.proofs.Sound.{Sound, sounds, chain-is}
-use Rattle.checkpoints.specs.Slots.{slotAt}
+use Rattle.record.specs.Record.{heldBytes}
+use Rattle.record.proofs.Sound.{sounds, chain-is}
+use Rattle.checkpoints.specs.Due.{checkpointsAt, spacing, dueNumbers}
+use Rattle.checkpoints.specs.Slots.{slotCount, slotAt}
 use Rattle.checkpoints.specs.Members.{member}
-use Rattle.checkpoints.specs.Roll.{links, shown, checkpoints}
-use Rattle.checkpoints.specs.Checkpoints.{chainsAfter}
+use Rattle.checkpoints.specs.Roll.{links, shown, checkpoints, isRollOf}
+use Rattle.checkpoints.proofs.Due.{due-many}
 use Rattle.checkpoints.proofs.Form.{roll-of}
 use Rattle.checkpoints.proofs.Shown.{Laid, laid-all}
-use Rattle.append_roll.specs.AppendRoll.{due, appendRollAnswer, checkpointChain, appendedRoll}
-use Rattle.append_roll.proofs.Answers.{Accepted, accepted}
+use Rattle.append_roll.specs.AppendRoll.{due, appendRollAnswer, chainAt, appendedRoll}
+use Rattle.append_roll.proofs.Answers.{Accepted, accepted, goal-of, refused-call, accepted-call}
+
+-- the checkpoints due, on a roll of the record that has room for them
+module _ (r : Record) (chain : Chain (sizeOf (r .w)) (r .chain)) (piece roll : List ℕ) where
+  pub chains : (j : ℕ) → Chain (sizeOf (r .w)) (chainAt r piece j)
+  unfolding chainAt
+  chains j = after-chain (sizeOf (r .w)) (r .chain) (heldBytes r ++ piece) (amounts (r .w)) chain (j - r .total / blockBytes (sizeOf (r .w)))
+
+  pub laid-due : isRollOf r roll ≡ true
+      → length (links (sizeOf (r .w)) roll) + length (due r (length piece)) ≤ slotCount (sizeOf (r .w)) (length roll)
+      → Laid (sizeOf (r .w)) (octets (r .w)) (chainAt r piece) chains roll (due r (length piece)) (goal-of r piece roll)
+  unfolding due dueNumbers checkpoints
+  laid-due of room =
+      let Z = sizeOf (r .w) in
+      let old : ℕ = r .total / blockBytes Z in
+      let new : ℕ = (r .total + length piece) / blockBytes Z in
+      let is = roll-of r roll of in
+      laid-all Z (octets (r .w)) (chainAt r piece) chains (new / spacing - old / spacing) (old / spacing) roll (is .0) (is .1) (omega (arith, room, is .1, due-many old new))
 
 module _ (r : Record) (words : length (r .chain) ≡ 16) (piece roll : List ℕ) where
   abbrev Z : WordSize
@@ -33,52 +51,21 @@ module _ (r : Record) (words : length (r .chain) ≡ 16) (piece roll : List ℕ)
     pass : Accepted r (length piece) roll
     pass = accepted r (length piece) roll taken
 
-    is : Sound r
-    is = sounds r (pass .taken)
+    chain : Chain Z (r .chain)
+    chain = let is = sounds r (pass .taken) in chain-is (r .w) (r .chain) (is .word) words (is .below)
 
-    abbrev f : ℕ → List ℕ
-    f = checkpointChain r piece
-
-    abbrev k : ℕ
-    k = checkpoints (r .w) (r .total)
-
-    abbrev d : ℕ
-    d = due r (length piece)
-
-    chains : (j : ℕ) → Chain Z (f j)
-    unfolding checkpointChain
-    chains j = forwards-chain Z (amounts (r .w)) _ (r .chain) (chain-is (r .w) (r .chain) (is .word) words (is .below))
-
-    -- the first j of them, from those that the roll shows on
-    abbrev C : ℕ → List (List ℕ)
-    C j = shown Z roll ++ chainsAfter f k (j - k)
-
-    grows : (j : ℕ) → k ≤ j → j < k + d → C (suc j) ≡ C j ++ f (suc j) ∷ []
-    grows j le lt =
-        let more : suc j - k ≡ suc (j - k) = omega arith in
-        let last : k + suc (j - k) ≡ suc j = omega arith in
-        ap (λ (n : ℕ). shown Z roll ++ chainsAfter f k n) more
-        ∙ ap (λ (n : ℕ). shown Z roll ++ (chainsAfter f k (j - k) ++ f n ∷ [])) last
-        ∙ sym (append-assoc (shown Z roll) (chainsAfter f k (j - k)) (f (suc j) ∷ []))
-
-    all : Laid Z (octets (r .w)) f C chains roll k d (appendedRoll r piece roll)
-    unfolding appendedRoll
+    all : Laid Z (octets (r .w)) (chainAt r piece) (chains r chain piece roll) roll (due r (length piece)) (appendedRoll r piece roll)
     all =
-        let of = roll-of r roll (pass .rollOf) in
-        let none : k - k ≡ 0 = omega arith in
-        rw (eq-eqb (appendRollAnswer r (length piece) roll) 0 taken)
-        (laid-all Z (octets (r .w)) f C chains d k roll (of .0) (of .1)
-        (sym (ap (λ (n : ℕ). shown Z roll ++ chainsAfter f k n) none ∙ append-nil (shown Z roll)))
-        (omega (arith, pass .room, of .1)) grows)
+        subst (Laid Z (octets (r .w)) (chainAt r piece) (chains r chain piece roll) roll (due r (length piece))) (accepted-call r piece roll refl taken .1)
+        (laid-due r chain piece roll (pass .rollOf) (pass .room))
 
-    pub appended-shown : shown Z (appendedRoll r piece roll) ≡ shown Z roll ++ chainsAfter (checkpointChain r piece) (checkpoints (r .w) (r .total)) (due r (length piece))
-    appended-shown = let e : k + d - k ≡ d = omega arith in all .shows ∙ ap (λ (n : ℕ). shown Z roll ++ chainsAfter f k n) e
+    pub appended-shown : shown Z (appendedRoll r piece roll) ≡ shown Z roll ++ checkpointsAt (chainAt r piece) (due r (length piece))
+    appended-shown = all .shows
 
   -- also where it refuses
   pub untaken : (j : ℕ) → 0 < j → member j (links Z (appendedRoll r piece roll)) ≡ false → slotAt Z (appendedRoll r piece roll) j ≡ slotAt Z roll j
-  unfolding appendedRoll
   untaken j some free = go (ℕ-discrete (appendRollAnswer r (length piece) roll) 0)
     where
       go : Dec (appendRollAnswer r (length piece) roll ≡ 0) → slotAt Z (appendedRoll r piece roll) j ≡ slotAt Z roll j
       go (yes taken) = all taken .untaken j some free .1
-      go (no refused) = rw (ne-eqb (appendRollAnswer r (length piece) roll) 0 refused)
+      go (no refused) = ap (λ (s : List ℕ). slotAt Z s j) (sym (refused-call r piece roll refl refused .1))

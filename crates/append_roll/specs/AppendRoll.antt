@@ -1,54 +1,50 @@
 -- Append with a roll: the answer's number, the count of blocks and the record that follows, and the bytes of the roll after the call.
 -- Assumes nothing.
-use mathlib.Core.Bool.{Bool, not, cond}
+use mathlib.Core.Bool.{Bool, cond}
 use mathlib.Core.List.{List, _++_}
-use Prim.Native.Nat.{ℕ, _+_, _-_, _*_, _/_}
-use lib.Dec.{eqb, ltb}
+use Prim.Native.Nat.{ℕ, _+_, _-_, _/_}
+use lib.Dec.{ltb}
 use lib.ListN.{length}
 use Rattle.lsh.specs.WordSize.{sizeOf, blockBytes}
-use Rattle.lsh.specs.Block.{forwards}
-use Rattle.lsh.specs.Padding.{firstBlocks}
+use Rattle.lsh.specs.Chains.{chainAfter}
+use Rattle.answers.specs.First.{first}
 use Rattle.runs.specs.Limits.{limit}
 use Rattle.record.specs.declared.Record.{Record}
 use Rattle.record.specs.declared.Outcome.{Outcome}
-use Rattle.record.specs.Record.{heldBytes, sound, isBegun, refused}
+use Rattle.record.specs.Record.{heldBytes, isBegun}
+use Rattle.record.specs.Turn.{answered}
 use Rattle.append.specs.Append.{appendAccepted}
+use Rattle.checkpoints.specs.Due.{checkpointsAt, dueNumbers}
 use Rattle.checkpoints.specs.Slots.{slotCount}
-use Rattle.checkpoints.specs.Roll.{links, spacing, checkpoints, isRollOf}
-use Rattle.checkpoints.specs.Checkpoints.{laidAfter}
+use Rattle.checkpoints.specs.Roll.{links, rollAnswer}
+use Rattle.checkpoints.specs.Checkpoints.{laidAll, ifAccepted}
 
--- how many checkpoints are due with size bytes more
-unfoldable pub due : Record → ℕ → ℕ
-due r size = checkpoints (r .w) (r .total + size) - checkpoints (r .w) (r .total)
+-- the numbers of the checkpoints that are due with size bytes more
+unfoldable pub due : Record → ℕ → List ℕ
+due r size = dueNumbers (r .total / blockBytes (sizeOf (r .w))) ((r .total + size) / blockBytes (sizeOf (r .w)))
 
 -- the links and the checkpoints due are more than the slots
 unfoldable pub isFull : Record → ℕ → List ℕ → Bool
-isFull r size roll = ltb (slotCount (sizeOf (r .w)) (length roll)) (length (links (sizeOf (r .w)) roll) + due r size)
+isFull r size roll = ltb (slotCount (sizeOf (r .w)) (length roll)) (length (links (sizeOf (r .w)) roll) + length (due r size))
 
--- by the record, the length of the piece and the roll: 3 if the record is not sound, then 17 if a split rewind is begun, 15 if the roll is none of the
--- record, 5 if the order would pass the limit, 16 if the roll has too few slots, else 0
+-- by the record, the length of the piece and the roll: out of turn while a split rewind is begun; 15 if the roll is none of the record, 5 if the order
+-- would pass the limit, 16 if the roll has too few slots, else 0
 unfoldable pub appendRollAnswer : Record → ℕ → List ℕ → ℕ
 appendRollAnswer r size roll =
-    cond (not (sound r)) 3
-    (cond (isBegun r) 17
-    (cond (not (isRollOf r roll)) 15
+    first (rollAnswer r (isBegun r) roll)
     (cond (ltb limit (r .total + size)) 5
     (cond (isFull r size roll) 16
-    0))))
+    0))
 
 -- an accepted call answers as Append without a roll does
 unfoldable pub appendRollCall : Record → List ℕ → List ℕ → Outcome
-appendRollCall r piece roll =
-    cond (eqb (appendRollAnswer r (length piece) roll) 0) (appendAccepted r piece) (refused (appendRollAnswer r (length piece) roll) r)
+appendRollCall r piece roll = answered (appendRollAnswer r (length piece) roll) r (appendAccepted r piece)
 
--- the chain of the k-th checkpoint, counted from 1: that after 64 k blocks of the order with the piece
-unfoldable pub checkpointChain : Record → List ℕ → ℕ → List ℕ
-checkpointChain r piece k =
-    forwards (sizeOf (r .w)) (firstBlocks (sizeOf (r .w)) (spacing * k - r .total / blockBytes (sizeOf (r .w))) (heldBytes r ++ piece)) (r .chain)
+-- the chain after k blocks of the order with the piece, where k is at least the record's whole blocks
+unfoldable pub chainAt : Record → List ℕ → ℕ → List ℕ
+chainAt r piece k = chainAfter (sizeOf (r .w)) (r .chain) (heldBytes r ++ piece) (k - r .total / blockBytes (sizeOf (r .w)))
 
 -- the roll after the call: each checkpoint that is due is laid, in order
 unfoldable pub appendedRoll : Record → List ℕ → List ℕ → List ℕ
 appendedRoll r piece roll =
-    cond (eqb (appendRollAnswer r (length piece) roll) 0)
-    (laidAfter (sizeOf (r .w)) (checkpointChain r piece) (checkpoints (r .w) (r .total)) (due r (length piece)) roll)
-    roll
+    ifAccepted (appendRollCall r piece roll) (laidAll (sizeOf (r .w)) (checkpointsAt (chainAt r piece) (due r (length piece))) roll) roll

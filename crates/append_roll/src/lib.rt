@@ -11,8 +11,9 @@ ghost use Rattle.runs.specs.Limits.{limit};
 ghost use Rattle.record.specs.declared.Record.{Record};
 ghost use Rattle.record.specs.Record.{heldOf, sound};
 ghost use Rattle.append.specs.Append.{appended, appendAccepted};
+ghost use Rattle.checkpoints.specs.Due.{spacing};
 ghost use Rattle.checkpoints.specs.Slots.{slotCount};
-ghost use Rattle.checkpoints.specs.Roll.{links, isRoll, spacing, checkpoints};
+ghost use Rattle.checkpoints.specs.Roll.{links, isRoll, checkpoints};
 ghost use Rattle.checkpoints.specs.FreeSlot.{freeSlot, FreeChoice};
 ghost use Rattle.checkpoints.specs.Checkpoints.{laid};
 ghost use Rattle.roll.specs.Way.{wayOf};
@@ -45,14 +46,9 @@ pub fn append_roll(r: Record, piece: &[u8], roll: &mut [u8]) -> Outcome
 fn answer(r: Record, size: usize, y: Way) -> u32
     ensures { λ a. ⌜ ((roll : List ℕ) → y ≡ wayOf (sizeOf (r .w)) roll → a ≡ appendRollAnswer r size roll) ⌝ }
 {
-    if !record::is_sound(r) {
-        return 3;
-    }
-    if record::is_begun(r) {
-        return 17;
-    }
-    if !roll::is_roll_of(y, r) {
-        return 15;
+    let a = roll::turn(r, record::is_begun(r), y);
+    if a != 0 {
+        return a;
     }
     let total = r.total;
     if runs::LIMIT as u64 - total < size as u64 {
@@ -108,7 +104,7 @@ fn first_part(r: Record, part: &[u8], roll: &mut [u8], y: Way) -> Progress
         × (length (links (sizeOf (r .w)) (now roll)) < slotCount (sizeOf (r .w)) (length (now roll))) ⌝ }
     ensures { λ q. ⌜ (q .chain ≡ appended r (now (part .entry)) .chain)
         × (q .count ≡ appendAccepted r (now (part .entry)) .count)
-        × (now (roll .exit) ≡ laid (sizeOf (r .w)) (appended r (now (part .entry)) .chain) (now (roll .entry)))
+        × ((k : ℕ) → now (roll .exit) ≡ laid (sizeOf (r .w)) (record { number = k; chain = appended r (now (part .entry)) .chain }) (now (roll .entry)))
         × (q .known ≡ wayOf (sizeOf (r .w)) (now (roll .exit))) ⌝ }
 {
     let o = append::accepted(r, part);
@@ -129,7 +125,7 @@ fn next_part(w: u64, p: Progress, part: &[u8], roll: &mut [u8]) -> Progress
         × (length (links (sizeOf w) (now roll)) < slotCount (sizeOf w) (length (now roll))) ⌝ }
     ensures { λ q. ⌜ (q .chain ≡ forwards (sizeOf w) (blocksOf (sizeOf w) (now (part .entry))) (p .chain))
         × (q .count ≡ p .count + length (now (part .entry)) / blockBytes (sizeOf w))
-        × (now (roll .exit) ≡ laid (sizeOf w) (q .chain) (now (roll .entry)))
+        × ((k : ℕ) → now (roll .exit) ≡ laid (sizeOf w) (record { number = k; chain = q .chain }) (now (roll .entry)))
         × (q .known ≡ wayOf (sizeOf w) (now (roll .exit))) ⌝ }
 {
     let before = p.chain;

@@ -8,6 +8,7 @@ use lib.ListN.{length}
 use Rattle.lsh.specs.WordSize.{WordSize, isWordSize, sizeOf, chainBytes, blockBytes}
 use Rattle.lsh.specs.Bytes.{wordsOf, bytesOf}
 use Rattle.lsh.specs.Block.{forward, backward}
+use Rattle.answers.specs.Output.{written}
 
 -- the lengths are those of a chain and of a block
 unfoldable pub areLengths : WordSize → ℕ → ℕ → Bool
@@ -20,7 +21,7 @@ blockAnswer w chain block = cond (not (isWordSize w)) 1 (cond (not (areLengths (
 -- the chain bytes after a run: replaced if the answer is 0, else as they came
 unfoldable pub runBytes : (WordSize → List ℕ → List ℕ → List ℕ) → ℕ → List ℕ → List ℕ → List ℕ
 runBytes run w chain block =
-    cond (eqb (blockAnswer w (length chain) (length block)) 0)
+    written (blockAnswer w (length chain) (length block)) (chainBytes (sizeOf w))
     (bytesOf (sizeOf w) (run (sizeOf w) (wordsOf (sizeOf w) 32 block) (wordsOf (sizeOf w) 16 chain)))
     chain
 

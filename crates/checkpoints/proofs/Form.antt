@@ -2,7 +2,7 @@
 -- Assumes nothing.
 use mathlib.Core.Path.{_≡_, refl, ap, _∙_}
 use mathlib.Core.Bool.{true, false, not, _&&_, false≢true}
-use mathlib.Core.List.{List, [], map}
+use mathlib.Core.List.{List, []}
 use Prim.Native.Nat.{ℕ, suc, _+_, _-_, _*_, _/_, _≤_, _<_}
 use native.Mathlib.Nat.{mul-div-cancel}
 use native.Mathlib.Omega.{arith}
@@ -16,7 +16,7 @@ use Rattle.lsh.proofs.Opening.{at-zeros}
 use Rattle.record.specs.declared.Record.{Record}
 use Rattle.checkpoints.specs.Slots.{indexBytes, mostSlots, slotBytes, rollBytes, slotCount, isRollLength, indexPlace}
 use Rattle.checkpoints.specs.Members.{member, repeats, allUpTo}
-use Rattle.checkpoints.specs.Roll.{newRoll, nextIndex, links, chainIn, shown, isRoll, checkpoints, isRollOf}
+use Rattle.checkpoints.specs.Roll.{newRoll, nextIndex, links, checkpointsIn, shown, isRoll, checkpoints, isRollOf}
 use Rattle.checkpoints.proofs.Members.{each-up-to, all-up-to, distinct-few}
 use Rattle.checkpoints.proofs.Ways.{Leads, met-leads, leads-met, met-some}
 
@@ -109,7 +109,7 @@ module _ (z : WordSize) where
 
     pub new-shown : shown z (newRoll z k) ≡ []
     unfolding shown
-    new-shown = ap (map (chainIn z (newRoll z k))) new-links
+    new-shown = ap (checkpointsIn z (newRoll z k) 1) new-links
 
     pub new-roll : isRoll z (newRoll z k) ≡ true
     new-roll = is-roll (newRoll z k) [] new-right new-way refl (λ x h. absurd (false≢true h))

@@ -1,4 +1,5 @@
 -- Laws of rolls.
+pub mod Due
 pub mod Members
 pub mod Ways
 pub mod Places
@@ -6,3 +7,4 @@ pub mod Writes
 pub mod Form
 pub mod Shown
 pub mod Spacing
+pub mod InTurn

@@ -3,53 +3,74 @@
 use mathlib.Core.Path.{_≡_, refl, sym, ap, ap₂, _∙_, subst}
 use mathlib.Core.Bool.{Bool, true, false, cond}
 use mathlib.Core.Logic.{⊎-elim}
-use mathlib.Core.List.{List, [], _∷_, _++_, map, append-nil}
-use Prim.Native.Nat.{ℕ, zero, suc, _+_, _≤_, _<_}
-use native.Mathlib.Nat.{add-zero, le-refl}
+use mathlib.Core.List.{List, [], _∷_, _++_, append-nil, append-assoc}
+use Prim.Native.Nat.{ℕ, zero, suc, _+_, _*_, _/_, _≤_, _<_, min}
+use native.Mathlib.Nat.{le-refl}
+use native.Mathlib.Decide.{decLt}
 use native.Mathlib.Omega.{arith}
 use lib.Dec.{eqb, ltb}
-use lib.ListN.{length, take, length-append}
+use lib.ListN.{length, take, length-append, length-map}
 use lib.Seq.{take-all, take-length}
-use borrow.Author.Tests.{eqb-false, ltb-true, ltb-false}
+use borrow.Author.Tests.{eqb-false, ltb-true, ltb-false, le-ltb}
 use Rattle.lsh.specs.Tabulate.{at}
 use Rattle.lsh.specs.WordSize.{WordSize}
 use Rattle.lsh.specs.Block.{Chain}
 use Rattle.lsh.proofs.Tests.{or-false, is-false}
 use Rattle.lsh.proofs.Bytes.{Octets}
 use Rattle.elements.proofs.Repeats.{one-there, one-take, one-snoc, repeats-take, repeats-snoc}
+use Rattle.checkpoints.specs.Due.{Checkpoint, checkpointsAt, numbersOf, spacing, multiplesAfter}
 use Rattle.checkpoints.specs.Slots.{slotCount, isRollLength, slotAt}
 use Rattle.checkpoints.specs.Members.{member, repeats}
-use Rattle.checkpoints.specs.Roll.{nextIndex, links, chainIn, shown, isRoll}
+use Rattle.checkpoints.specs.Roll.{nextIndex, links, chainIn, checkpointsIn, shown, isRoll}
 use Rattle.checkpoints.specs.FreeSlot.{Unlinked, FreeChoice}
-use Rattle.checkpoints.specs.Checkpoints.{withIndex, withSlot, leadTo, taken, laid, laidAfter, unlinked}
+use Rattle.checkpoints.specs.Checkpoints.{withIndex, withSlot, leadTo, taken, laid, laidAll, unlinked, cutTo}
+use Rattle.checkpoints.proofs.Due.{multiples-many, first-up-to}
 use Rattle.checkpoints.proofs.Members.{eqb-equivalence, apart, member-here, member-cases, member-at, free-choice}
 use Rattle.checkpoints.proofs.Ways.{Leads, relinked}
 use Rattle.checkpoints.proofs.Writes.{index-size, next-is, next-other, chain-kept, slot-size, slot-next, slot-next-other, slot-chain, slot-chain-other, slot-kept, slot-kept-other}
 use Rattle.checkpoints.proofs.Form.{Sized, sized, Linked, linked, links-are, is-roll}
 
--- the same function on the numbers of a list, and on parts of it
-map-same : (f g : ℕ → List ℕ) (l : List ℕ) → ((x : ℕ) → member x l ≡ true → f x ≡ g x) → map f l ≡ map g l
-map-same f g [] h = refl
-map-same f g (x ∷ l) h =
-    ap₂ (λ (y : List ℕ) (ys : List (List ℕ)). y ∷ ys) (h x (member-here x l)) (map-same f g l (λ y e. h y (one-there eqb y x l e)))
+-- the checkpoints in slots whose chains are the same, and in parts of a list of slots
+in-same : (z : WordSize) (s u : List ℕ) (k : ℕ) (l : List ℕ) → ((x : ℕ) → member x l ≡ true → chainIn z s x ≡ chainIn z u x) → checkpointsIn z s k l ≡ checkpointsIn z u k l
+in-same z s u k [] h = refl
+in-same z s u k (x ∷ l) h =
+    ap₂ (λ (t : List ℕ) (cs : List Checkpoint). record { number = spacing * k; chain = t } ∷ cs) (h x (member-here x l))
+    (in-same z s u (suc k) l (λ y e. h y (one-there eqb y x l e)))
 
-map-snoc : (f : ℕ → List ℕ) (l : List ℕ) (x : ℕ) → map f (l ++ x ∷ []) ≡ map f l ++ f x ∷ []
-map-snoc f [] x = refl
-map-snoc f (y ∷ l) x = ap (λ (ys : List (List ℕ)). f y ∷ ys) (map-snoc f l x)
+in-snoc : (z : WordSize) (s : List ℕ) (k : ℕ) (l : List ℕ) (x n : ℕ) → n ≡ spacing * (k + length l)
+    → checkpointsIn z s k (l ++ x ∷ []) ≡ checkpointsIn z s k l ++ record { number = n; chain = chainIn z s x } ∷ []
+in-snoc z s k [] x n is = ap (λ (m : ℕ). record { number = m; chain = chainIn z s x } ∷ []) (omega arith)
+in-snoc z s k (y ∷ l) x n is = ap (λ (cs : List Checkpoint). record { number = spacing * k; chain = chainIn z s y } ∷ cs) (in-snoc z s (suc k) l x n (omega arith))
 
-map-take : (f : ℕ → List ℕ) (m : ℕ) (l : List ℕ) → map f (take m l) ≡ take m (map f l)
-map-take f zero l = refl
-map-take f (suc m) [] = refl
-map-take f (suc m) (x ∷ l) = ap (λ (ys : List (List ℕ)). f x ∷ ys) (map-take f m l)
+in-take : (z : WordSize) (s : List ℕ) (k m : ℕ) (l : List ℕ) → checkpointsIn z s k (take m l) ≡ take m (checkpointsIn z s k l)
+in-take z s k zero l = refl
+in-take z s k (suc m) [] = refl
+in-take z s k (suc m) (x ∷ l) = ap (λ (cs : List Checkpoint). record { number = spacing * k; chain = chainIn z s x } ∷ cs) (in-take z s (suc k) m l)
 
--- a chain for each link
-pub shown-many : (z : WordSize) (s : List ℕ) → length (shown z s) ≡ length (links z s)
+-- their numbers
+in-numbers : (z : WordSize) (s : List ℕ) (k : ℕ) (l : List ℕ) → numbersOf (checkpointsIn z s (suc k) l) ≡ multiplesAfter k (length l)
+in-numbers z s k [] = refl
+in-numbers z s k (x ∷ l) = ap (λ (r : List ℕ). spacing * suc k ∷ r) (in-numbers z s (suc k) l)
+
+pub shown-numbers : (z : WordSize) (s : List ℕ) → numbersOf (shown z s) ≡ multiplesAfter 0 (length (links z s))
 unfolding shown
-shown-many z s = go (links z s)
+shown-numbers z s = in-numbers z s 0 (links z s)
+
+-- a checkpoint for each link
+pub shown-many : (z : WordSize) (s : List ℕ) → length (shown z s) ≡ length (links z s)
+shown-many z s =
+    sym (length-map (shown z s) (λ c. c .number)) ∙ ap length (shown-numbers z s) ∙ multiples-many 0 (length (links z s))
+
+-- those up to k are the first k / 64
+pub cut-is : (z : WordSize) (s : List ℕ) (k : ℕ) → unlinked z (k / spacing) s ≡ cutTo z k s
+unfolding cutTo unlinked
+cut-is z s k = rw (shown-numbers z s, first-up-to k (length (links z s))) (go (decLt (k / spacing) (length (links z s))))
   where
-    go : (l : List ℕ) → length (map (chainIn z s) l) ≡ length l
-    go [] = refl
-    go (x ∷ l) = ap suc (go l)
+    go : Dec (k / spacing < length (links z s)) → unlinked z (k / spacing) s ≡ unlinked z (min (k / spacing) (length (links z s))) s
+    go (yes less) = let few : k / spacing ≡ min (k / spacing) (length (links z s)) = omega arith in ap (λ (m : ℕ). unlinked z m s) few
+    go (no more) =
+        let m : ℕ = min (k / spacing) (length (links z s)) in
+        rw (le-ltb (k / spacing) (length (links z s)) (omega arith), le-ltb m (length (links z s)) (omega arith))
 
 module _ (z : WordSize) (ok : Octets z) (s : List ℕ) (is : isRoll z s ≡ true) where
   abbrev L : List ℕ
@@ -82,7 +103,10 @@ module _ (z : WordSize) (ok : Octets z) (s : List ℕ) (is : isRoll z s ≡ true
   lead-in m le = lead-within (at (0 ∷ L) m) (lead-member m le)
 
   -- a checkpoint laid
-  module _ (room : length L < k) (t : List ℕ) (chain : Chain z t) where
+  module _ (room : length L < k) (c : Checkpoint) (chain : Chain z (c .chain)) where
+    abbrev t : List ℕ
+    t = c .chain
+
     abbrev i : ℕ
     i = taken z s
 
@@ -108,7 +132,7 @@ module _ (z : WordSize) (ok : Octets z) (s : List ℕ) (is : isRoll z s ≡ true
     abbrev U : List ℕ
     U = withIndex z S last i
 
-    laid-is : laid z t s ≡ U
+    laid-is : laid z c s ≡ U
     unfolding laid leadTo
     laid-is = refl
 
@@ -154,13 +178,13 @@ module _ (z : WordSize) (ok : Octets z) (s : List ℕ) (is : isRoll z s ≡ true
     laid-right : isRollLength z (length U) ≡ true
     laid-right = ap (isRollLength z) laid-length ∙ have .right
 
-    pub laid-size : length (laid z t s) ≡ length s
+    pub laid-size : length (laid z c s) ≡ length s
     laid-size = ap length laid-is ∙ laid-length
 
-    pub laid-links : links z (laid z t s) ≡ L ++ i ∷ []
+    pub laid-links : links z (laid z c s) ≡ L ++ i ∷ []
     laid-links = ap (links z) laid-is ∙ links-are z U (L ++ i ∷ []) laid-right laid-way laid-distinct laid-within
 
-    pub laid-roll : isRoll z (laid z t s) ≡ true
+    pub laid-roll : isRoll z (laid z c s) ≡ true
     laid-roll = ap (isRoll z) laid-is ∙ is-roll z U (L ++ i ∷ []) laid-right laid-way laid-distinct laid-within
 
     chain-stays : (x : ℕ) → member x L ≡ true → chainIn z U x ≡ chainIn z s x
@@ -173,16 +197,16 @@ module _ (z : WordSize) (ok : Octets z) (s : List ℕ) (is : isRoll z s ≡ true
         chain-kept z ok k S (written ∙ sizes .size) last last-within i i (free .some)
         ∙ slot-chain z ok k s (sizes .size) i (free .within) (free .some) t chain
 
-    -- it shows one chain more
-    pub laid-shown : shown z (laid z t s) ≡ shown z s ++ t ∷ []
+    -- it is shown behind the others, if it has the number of the next
+    pub laid-shown : c .number ≡ spacing * suc (length L) → shown z (laid z c s) ≡ shown z s ++ c ∷ []
     unfolding shown
-    laid-shown =
-        ap₂ (λ (u : List ℕ) (l : List ℕ). map (chainIn z u) l) laid-is laid-links
-        ∙ map-snoc (chainIn z U) L i
-        ∙ ap₂ (λ (xs : List (List ℕ)) (x : List ℕ). xs ++ x ∷ []) (map-same (chainIn z U) (chainIn z s) L chain-stays) chain-new
+    laid-shown next =
+        ap₂ (λ (u : List ℕ) (l : List ℕ). checkpointsIn z u 1 l) laid-is laid-links
+        ∙ in-snoc z U 1 L i (c .number) (omega arith)
+        ∙ ap₂ (λ (cs : List Checkpoint) (x : List ℕ). cs ++ record { number = c .number; chain = x } ∷ []) (in-same z U s 1 L chain-stays) chain-new
 
     -- every other slot that was not linked keeps its bytes
-    pub laid-untaken : (j : ℕ) → 0 < j → member j (links z (laid z t s)) ≡ false → slotAt z (laid z t s) j ≡ slotAt z s j
+    pub laid-untaken : (j : ℕ) → 0 < j → member j (links z (laid z c s)) ≡ false → slotAt z (laid z c s) j ≡ slotAt z s j
     laid-untaken j some unlinked-after =
         let p : (eqb j i ≡ false) × (member j L ≡ false) =
         or-false (eqb j i) (member j L) (sym (ap (member j) laid-links ∙ one-snoc eqb j i L) ∙ unlinked-after) in
@@ -230,12 +254,11 @@ module _ (z : WordSize) (ok : Octets z) (s : List ℕ) (is : isRoll z s ≡ true
       cut-shown : shown z C ≡ take m (shown z s)
       unfolding shown
       cut-shown =
-          ap (map (chainIn z C)) cut-links
-          ∙ map-same (chainIn z C) (chainIn z s) (take m L)
-          (λ x h. chain-kept z ok k s (sizes .size) at-m m-within 0 x (have .within x (one-take eqb x m L h) .0))
-          ∙ map-take (chainIn z s) m L
+          ap (checkpointsIn z C 1) cut-links
+          ∙ in-same z C s 1 (take m L) (λ x h. chain-kept z ok k s (sizes .size) at-m m-within 0 x (have .within x (one-take eqb x m L h) .0))
+          ∙ in-take z s 1 m L
 
-    -- a roll of the same length, that shows the first m chains
+    -- a roll of the same length, that shows the first m checkpoints
     pub record Cut (u : List ℕ) : Type 0 where
       pub size : length u ≡ length s
       pub roll : isRoll z u ≡ true
@@ -256,46 +279,36 @@ module _ (z : WordSize) (ok : Octets z) (s : List ℕ) (is : isRoll z s ≡ true
               shows = sym (take-all m (shown z s) (omega (arith, shown-many z s, ltb-false m (length L) e)));
             }
 
--- d checkpoints laid one after the other, from m links on. C j are the first j chains that the roll has to show, and f j is the j-th
-module _ (z : WordSize) (ok : Octets z) (f : ℕ → List ℕ) (C : ℕ → List (List ℕ))
-    (chains : (j : ℕ) → Chain z (f j)) where
-  pub record Laid (s : List ℕ) (m d : ℕ) (u : List ℕ) : Type 0 where
+-- d checkpoints laid one after the other behind m links, with the chains f
+module _ (z : WordSize) (ok : Octets z) (f : ℕ → List ℕ) (chains : (j : ℕ) → Chain z (f j)) where
+  pub record Laid (s : List ℕ) (numbers : List ℕ) (u : List ℕ) : Type 0 where
     pub size : length u ≡ length s
     pub roll : isRoll z u ≡ true
-    pub many : length (links z u) ≡ m + d
-    pub shows : shown z u ≡ C (m + d)
+    pub shows : shown z u ≡ shown z s ++ checkpointsAt f numbers
     pub untaken : (j : ℕ) → 0 < j → member j (links z u) ≡ false → (member j (links z s) ≡ false) × (slotAt z u j ≡ slotAt z s j)
 
-  pub laid-all : (d m : ℕ) (s : List ℕ) → isRoll z s ≡ true → length (links z s) ≡ m → shown z s ≡ C m → m + d ≤ slotCount z (length s)
-      → ((j : ℕ) → m ≤ j → j < m + d → C (suc j) ≡ C j ++ f (suc j) ∷ []) → Laid s m d (laidAfter z f m d s)
-  laid-all zero m s is many shows room grows =
-      record {
-        size = refl;
-        roll = is;
-        many = many ∙ sym (add-zero m);
-        shows = shows ∙ ap C (sym (add-zero m));
-        untaken = λ j some free. (free, refl);
-      }
-  laid-all (suc d) m s is many shows room grows =
+  pub laid-all : (d m : ℕ) (s : List ℕ) → isRoll z s ≡ true → length (links z s) ≡ m → m + d ≤ slotCount z (length s)
+      → Laid s (multiplesAfter m d) (laidAll z (checkpointsAt f (multiplesAfter m d)) s)
+  laid-all zero m s is many room =
+      record { size = refl; roll = is; shows = sym (append-nil (shown z s)); untaken = λ j some free. (free, refl) }
+  laid-all (suc d) m s is many room =
       let left : length (links z s) < slotCount z (length s) = omega arith in
-      let t : List ℕ = f (suc m) in
-      let u : List ℕ = laid z t s in
-      let same : length u ≡ length s = laid-size z ok s is left t (chains (suc m)) in
-      let more : length (links z u) ≡ suc m =
-      ap length (laid-links z ok s is left t (chains (suc m))) ∙ length-append (links z s) _ ∙ omega arith in
-      let next : shown z u ≡ C (suc m) =
-      laid-shown z ok s is left t (chains (suc m)) ∙ ap (λ (xs : List (List ℕ)). xs ++ t ∷ []) shows ∙ sym (grows m (omega arith) (omega arith)) in
-      let rest : Laid u (suc m) d (laidAfter z f (suc m) d u) =
-      laid-all d (suc m) u (laid-roll z ok s is left t (chains (suc m))) more next (rw same (omega arith)) (λ j le lt. grows j (omega arith) (omega arith)) in
-      let sum : suc m + d ≡ m + suc d = omega arith in
+      let c : Checkpoint = record { number = spacing * suc m; chain = f (spacing * suc m) } in
+      let ct : Chain z (c .chain) = chains (spacing * suc m) in
+      let u : List ℕ = laid z c s in
+      let same : length u ≡ length s = laid-size z ok s is left c ct in
+      let more : length (links z u) ≡ suc m = ap length (laid-links z ok s is left c ct) ∙ length-append (links z s) _ ∙ omega arith in
+      let rest = laid-all d (suc m) u (laid-roll z ok s is left c ct) more (rw same (omega arith)) in
       record {
         size = rest .size ∙ same;
         roll = rest .roll;
-        many = rest .many ∙ sum;
-        shows = rest .shows ∙ ap C sum;
+        shows =
+            rest .shows
+            ∙ ap (λ (cs : List Checkpoint). cs ++ checkpointsAt f (multiplesAfter (suc m) d)) (laid-shown z ok s is left c ct (ap (λ (n : ℕ). spacing * suc n) (sym many)))
+            ∙ append-assoc (shown z s) (c ∷ []) (checkpointsAt f (multiplesAfter (suc m) d));
         untaken = λ j some free.
             let r = rest .untaken j some free in
             let p = or-false (eqb j (taken z s)) (member j (links z s))
-            (sym (ap (member j) (laid-links z ok s is left t (chains (suc m))) ∙ one-snoc eqb j (taken z s) (links z s)) ∙ r .0) in
-            (p .1, r .1 ∙ laid-untaken z ok s is left t (chains (suc m)) j some (r .0));
+            (sym (ap (member j) (laid-links z ok s is left c ct) ∙ one-snoc eqb j (taken z s) (links z s)) ∙ r .0) in
+            (p .1, r .1 ∙ laid-untaken z ok s is left c ct j some (r .0));
       }

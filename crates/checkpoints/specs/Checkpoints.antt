@@ -1,16 +1,18 @@
--- Checkpoints laid on a roll, and taken off it.
+-- Checkpoints laid on a roll, and taken off it; and the roll after a call.
 -- Assumes nothing.
 use mathlib.Core.Bool.{cond}
-use mathlib.Core.List.{List, [], _∷_, _++_}
-use Prim.Native.Nat.{ℕ, zero, suc, _+_}
-use lib.Dec.{ltb}
+use mathlib.Core.List.{List, [], _∷_}
+use Prim.Native.Nat.{ℕ}
+use lib.Dec.{eqb, ltb}
 use lib.ListN.{length}
 use lib.Seq.{sets}
 use Rattle.lsh.specs.Tabulate.{at, tabulate}
 use Rattle.lsh.specs.WordSize.{WordSize}
 use Rattle.lsh.specs.Bytes.{byteAt, bytesOf}
+use Rattle.record.specs.declared.Outcome.{Outcome}
+use Rattle.checkpoints.specs.Due.{Checkpoint, numbersOf, upTo}
 use Rattle.checkpoints.specs.Slots.{indexBytes, slotCount, indexPlace, chainPlace}
-use Rattle.checkpoints.specs.Roll.{links}
+use Rattle.checkpoints.specs.Roll.{links, shown}
 use Rattle.checkpoints.specs.FreeSlot.{freeSlot}
 
 -- the index next written where it leads on from slot i; 0 is the head
@@ -29,20 +31,23 @@ leadTo z s m = at (0 ∷ links z s) m
 unfoldable pub taken : WordSize → List ℕ → ℕ
 taken z s = freeSlot (slotCount z (length s)) (links z s)
 
--- a checkpoint with the chain t is laid: the slot taken is written, and linked behind the last
-unfoldable pub laid : WordSize → List ℕ → List ℕ → List ℕ
-laid z t s = withIndex z (withSlot z s (taken z s) t) (leadTo z s (length (links z s))) (taken z s)
+-- a checkpoint is laid: the slot taken is written, and linked behind the last
+unfoldable pub laid : WordSize → Checkpoint → List ℕ → List ℕ
+laid z c s = withIndex z (withSlot z s (taken z s) (c .chain)) (leadTo z s (length (links z s))) (taken z s)
 
--- the chains of the d numbers after k
-abbrev pub chainsAfter : (ℕ → List ℕ) → ℕ → ℕ → List (List ℕ)
-chainsAfter chain k zero = []
-chainsAfter chain k (suc d) = chainsAfter chain k d ++ chain (k + suc d) ∷ []
-
--- d checkpoints are laid, with these chains
-abbrev pub laidAfter : WordSize → (ℕ → List ℕ) → ℕ → ℕ → List ℕ → List ℕ
-laidAfter z chain k zero s = s
-laidAfter z chain k (suc d) s = laidAfter z chain (suc k) d (laid z (chain (suc k)) s)
+-- checkpoints are laid, one after the other
+abbrev pub laidAll : WordSize → List Checkpoint → List ℕ → List ℕ
+laidAll z [] s = s
+laidAll z (c ∷ cs) s = laidAll z cs (laid z c s)
 
 -- the links from the m-th on are taken off, if there are any: the index that led to the first of them becomes 0, and nothing else is written
 unfoldable pub unlinked : WordSize → ℕ → List ℕ → List ℕ
 unlinked z m s = cond (ltb m (length (links z s))) (withIndex z s (leadTo z s m) 0) s
+
+-- the checkpoints after more than k blocks are taken off
+unfoldable pub cutTo : WordSize → ℕ → List ℕ → List ℕ
+cutTo z k s = unlinked z (upTo k (numbersOf (shown z s))) s
+
+-- the roll after a call, by its answer: changed if that is 0, else as it was
+unfoldable pub ifAccepted : Outcome → List ℕ → List ℕ → List ℕ
+ifAccepted o changed roll = cond (eqb (o .number) 0) changed roll

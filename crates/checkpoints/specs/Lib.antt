@@ -1,4 +1,5 @@
--- In the order of W1: the bytes of a roll, its links, the checkpoints that it shows, and a checkpoint laid and unlinked.
+-- In the order of W1: checkpoints and their numbers, the bytes of a roll, its links, the checkpoints that it shows, and checkpoints laid and unlinked.
+pub mod Due
 pub mod Slots
 pub mod Members
 pub mod Roll

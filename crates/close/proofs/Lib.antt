@@ -2,5 +2,3 @@
 pub mod HeldBytes
 pub mod Closed
 pub mod Answers
-pub mod Messages
-pub mod Unfinished

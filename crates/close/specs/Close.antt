@@ -1,15 +1,15 @@
 -- Close of document 01 ("Receipts and the tally"): the answer, the digest it gives, and the output after the call.
 -- Assumes nothing.
 use mathlib.Core.Bool.{Bool, not, cond}
-use mathlib.Core.List.{List, _++_}
+use mathlib.Core.List.{List}
 use Prim.Native.Nat.{ℕ, _+_, _*_}
-use lib.Dec.{eqb}
-use lib.ListN.{length, drop}
+use lib.ListN.{length}
 use Rattle.lsh.specs.WordSize.{sizeOf}
 use Rattle.lsh.specs.Block.{forwards}
 use Rattle.lsh.specs.Bits.{bytesOfBits}
 use Rattle.lsh.specs.Padding.{padded, blocksOf}
 use Rattle.lsh.specs.Hash.{digest}
+use Rattle.answers.specs.Output.{written}
 use Rattle.record.specs.declared.Record.{Record}
 use Rattle.record.specs.Record.{sound, heldBytes}
 use Rattle.finalization.specs.Receipt.{receiptBytes, receipt}
@@ -25,10 +25,9 @@ closedDigest r last e =
     digest (sizeOf (r .w)) (r .n)
     (forwards (sizeOf (r .w)) (blocksOf (sizeOf (r .w)) (bytesOfBits (padded (sizeOf (r .w)) (messageBits (heldBytes r) last e)))) (r .chain))
 
--- the output after the call: its front replaced by the receipt of this digest, and of 8 bits for each byte and e more, if the answer is 0,
--- else as it came
+-- the receipt of this digest, and of 8 bits for each byte and e more, is written
 unfoldable pub closeOutput : Record → ℕ → ℕ → List ℕ → List ℕ
 closeOutput r last e output =
-    cond (eqb (closeAnswer r last e (length output)) 0)
-    (receipt (r .w) (r .n) (closedDigest r last e) (8 * r .total + e) ++ drop receiptBytes output)
+    written (closeAnswer r last e (length output)) receiptBytes
+    (receipt (r .w) (r .n) (closedDigest r last e) (8 * r .total + e))
     output

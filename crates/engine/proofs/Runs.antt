@@ -1,8 +1,8 @@
 -- The loops over the whole blocks of a byte string, forward in order and backward from the last.
 -- Assumes nothing.
 use mathlib.Core.Path.{_≡_, refl, sym, ap, ap₂, _∙_, subst}
-use mathlib.Core.List.{List, [], _∷_, _++_}
-use Prim.Native.Nat.{ℕ, zero, suc, _+_, _-_, _*_, _/_, _≤_, _<_, zero-le}
+use mathlib.Core.List.{List, [], _∷_}
+use Prim.Native.Nat.{ℕ, suc, _+_, _-_, _*_, _/_, _≤_, _<_, zero-le}
 use native.Mathlib.Nat.{le-antisymm, zero-add}
 use native.Mathlib.Numerals.{add-one}
 use native.Mathlib.Omega.{arith}
@@ -10,9 +10,9 @@ use lib.ListN.{length, take, drop, length-drop}
 use lib.Seq.{length-take-le}
 use Rattle.lsh.specs.WordSize.{WordSize, blockBytes}
 use Rattle.lsh.specs.Bytes.{wordsOf}
-use Rattle.lsh.specs.Block.{forward, backward, forwards, backwards}
+use Rattle.lsh.specs.Block.{forwardSteps, backwardSteps, forwardsSteps, backwardsSteps}
 use Rattle.lsh.specs.Padding.{firstBlocks, blocksOf}
-use Rattle.lsh.proofs.Blocks.{forwards-append, backwards-append}
+use Rattle.lsh.proofs.Blocks.{forwardsSteps-append, backwardsSteps-append}
 use Rattle.lsh.proofs.Padding.{blockAt, firstBlocks-more}
 
 -- the part of s that the code lends for block k, from place k * B to k * B + B
@@ -31,64 +31,64 @@ part-block z s k =
     let e : k * B + B - k * B ≡ B = omega arith in
     ap (λ (n : ℕ). wordsOf z 32 (take n (drop (k * B) s))) e
 
--- count blocks of n are run
-pub record RunForward (z : WordSize) (n : ℕ) (s t c : List ℕ) (count : ℕ) : Type 0 where
+-- count blocks of n are run, with k steps each
+pub record RunForward (z : WordSize) (k n : ℕ) (s t c : List ℕ) (count : ℕ) : Type 0 where
   pub upTo : count ≤ n
-  pub chain : c ≡ forwards z (firstBlocks z count s) t
+  pub chain : c ≡ forwardsSteps z k (firstBlocks z count s) t
 
-pub run-forward-none : (z : WordSize) (n : ℕ) (s t : List ℕ) → RunForward z n s t t 0
-unfolding firstBlocks forwards
-run-forward-none z n s t = record { upTo = zero-le; chain = refl }
+pub run-forward-none : (z : WordSize) (k n : ℕ) (s t : List ℕ) → RunForward z k n s t t 0
+unfolding firstBlocks forwardsSteps
+run-forward-none z k n s t = record { upTo = zero-le; chain = refl }
 
-pub run-forward-more : {z : WordSize} {n : ℕ} {s t c : List ℕ} {count : ℕ} (u : List ℕ) → RunForward z n s t c count → count < n
-    → u ≡ forward z (wordsOf z 32 (part z s count)) c → RunForward z n s t u (count + 1)
-unfolding forwards
-run-forward-more {z} {n} {s} {t} {c} {count} u h lt e =
+pub run-forward-more : {z : WordSize} {k n : ℕ} {s t c : List ℕ} {count : ℕ} (u : List ℕ) → RunForward z k n s t c count → count < n
+    → u ≡ forwardSteps z k (wordsOf z 32 (part z s count)) c → RunForward z k n s t u (count + 1)
+unfolding forwardsSteps
+run-forward-more {z} {k} {n} {s} {t} {c} {count} u h lt e =
     record {
       upTo = omega arith;
       chain =
-          e ∙ ap₂ (forward z) (part-block z s count) (h .chain)
-          ∙ sym (ap (λ (k : ℕ). forwards z (firstBlocks z k s) t) (add-one count)
-          ∙ ap (λ (bs : List (List ℕ)). forwards z bs t) (firstBlocks-more z count s)
-          ∙ forwards-append z (firstBlocks z count s) (blockAt z s count ∷ []) t);
+          e ∙ ap₂ (forwardSteps z k) (part-block z s count) (h .chain)
+          ∙ sym (ap (λ (i : ℕ). forwardsSteps z k (firstBlocks z i s) t) (add-one count)
+          ∙ ap (λ (bs : List (List ℕ)). forwardsSteps z k bs t) (firstBlocks-more z count s)
+          ∙ forwardsSteps-append z k (firstBlocks z count s) (blockAt z s count ∷ []) t);
     }
 
-pub run-forward-all : {z : WordSize} {s t c : List ℕ} {count : ℕ} → RunForward z (length s / blockBytes z) s t c count
-    → length s / blockBytes z ≤ count → (c ≡ forwards z (blocksOf z s) t) × (count ≡ length s / blockBytes z)
+pub run-forward-all : {z : WordSize} {k : ℕ} {s t c : List ℕ} {count : ℕ} → RunForward z k (length s / blockBytes z) s t c count
+    → length s / blockBytes z ≤ count → (c ≡ forwardsSteps z k (blocksOf z s) t) × (count ≡ length s / blockBytes z)
 unfolding blocksOf
-run-forward-all {z} {s} {t} {c} {count} h le =
+run-forward-all {z} {k} {s} {t} {c} {count} h le =
     let all : count ≡ length s / blockBytes z = le-antisymm (h .upTo) le in
-    (h .chain ∙ ap (λ (k : ℕ). forwards z (firstBlocks z k s) t) all, all)
+    (h .chain ∙ ap (λ (i : ℕ). forwardsSteps z k (firstBlocks z i s) t) all, all)
 
--- count blocks of n are run from the last, and left are left
-pub record RunBackward (z : WordSize) (n : ℕ) (s t c : List ℕ) (count left : ℕ) : Type 0 where
+-- count blocks of n are run from the last, with k steps each, and left are left
+pub record RunBackward (z : WordSize) (k n : ℕ) (s t c : List ℕ) (count left : ℕ) : Type 0 where
   pub both : count + left ≡ n
-  pub chain : backwards z (firstBlocks z left s) c ≡ backwards z (firstBlocks z n s) t
+  pub chain : backwardsSteps z k (firstBlocks z left s) c ≡ backwardsSteps z k (firstBlocks z n s) t
 
-pub run-backward-none : (z : WordSize) (n : ℕ) (s t : List ℕ) → RunBackward z n s t t 0 n
-run-backward-none z n s t = record { both = zero-add n; chain = refl }
+pub run-backward-none : (z : WordSize) (k n : ℕ) (s t : List ℕ) → RunBackward z k n s t t 0 n
+run-backward-none z k n s t = record { both = zero-add n; chain = refl }
 
-pub run-backward-more : {z : WordSize} {n : ℕ} {s t c : List ℕ} {count left : ℕ} (u : List ℕ) → RunBackward z n s t c count left → 0 < left
-    → u ≡ backward z (wordsOf z 32 (part z s (left - 1))) c → RunBackward z n s t u (count + 1) (left - 1)
-unfolding backwards
-run-backward-more {z} {n} {s} {t} {c} {count} {left} u h lt e =
-    let k : ℕ = left - 1 in
-    let before : left ≡ suc k = omega arith in
+pub run-backward-more : {z : WordSize} {k n : ℕ} {s t c : List ℕ} {count left : ℕ} (u : List ℕ) → RunBackward z k n s t c count left → 0 < left
+    → u ≡ backwardSteps z k (wordsOf z 32 (part z s (left - 1))) c → RunBackward z k n s t u (count + 1) (left - 1)
+unfolding backwardsSteps
+run-backward-more {z} {k} {n} {s} {t} {c} {count} {left} u h lt e =
+    let rest : ℕ = left - 1 in
+    let before : left ≡ suc rest = omega arith in
     let sum : count + left ≡ n = h .both in
     record {
       both = omega arith;
       chain =
-          ap (backwards z (firstBlocks z k s)) (e ∙ ap (λ (w : List ℕ). backward z w c) (part-block z s k))
-          ∙ sym (ap (λ (i : ℕ). backwards z (firstBlocks z i s) c) before
-          ∙ ap (λ (bs : List (List ℕ)). backwards z bs c) (firstBlocks-more z k s)
-          ∙ backwards-append z (firstBlocks z k s) (blockAt z s k ∷ []) c)
+          ap (backwardsSteps z k (firstBlocks z rest s)) (e ∙ ap (λ (w : List ℕ). backwardSteps z k w c) (part-block z s rest))
+          ∙ sym (ap (λ (i : ℕ). backwardsSteps z k (firstBlocks z i s) c) before
+          ∙ ap (λ (bs : List (List ℕ)). backwardsSteps z k bs c) (firstBlocks-more z rest s)
+          ∙ backwardsSteps-append z k (firstBlocks z rest s) (blockAt z s rest ∷ []) c)
           ∙ h .chain;
     }
 
-pub run-backward-all : {z : WordSize} {s t c : List ℕ} {count left : ℕ} → RunBackward z (length s / blockBytes z) s t c count left → left ≤ 0
-    → (c ≡ backwards z (blocksOf z s) t) × (count ≡ length s / blockBytes z)
-unfolding blocksOf firstBlocks backwards
-run-backward-all {z} {s} {t} {c} {count} {left} h le =
+pub run-backward-all : {z : WordSize} {k : ℕ} {s t c : List ℕ} {count left : ℕ} → RunBackward z k (length s / blockBytes z) s t c count left → left ≤ 0
+    → (c ≡ backwardsSteps z k (blocksOf z s) t) × (count ≡ length s / blockBytes z)
+unfolding blocksOf firstBlocks backwardsSteps
+run-backward-all {z} {k} {s} {t} {c} {count} {left} h le =
     let none : left ≡ 0 = omega arith in
     let sum : count + left ≡ length s / blockBytes z = h .both in
-    (subst (λ (k : ℕ). backwards z (firstBlocks z k s) c ≡ backwards z (firstBlocks z (length s / blockBytes z) s) t) none (h .chain), omega arith)
+    (subst (λ (i : ℕ). backwardsSteps z k (firstBlocks z i s) c ≡ backwardsSteps z k (firstBlocks z (length s / blockBytes z) s) t) none (h .chain), omega arith)

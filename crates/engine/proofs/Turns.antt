@@ -1,81 +1,82 @@
--- The loops of a block run: two steps a turn, forward and backward, with the sub-messages in one array.
+-- The steps of a block, forward and backward, with the sub-messages in one array: one by one, and two to a turn.
 -- Assumes nothing.
 use mathlib.Core.Path.{_≡_, refl, sym, ap, ap₂, _∙_, subst}
 use mathlib.Core.List.{List}
-use Prim.Native.Nat.{ℕ, zero, suc, _+_, _-_, _*_, _≤_, _<_, zero-le}
-use native.Mathlib.Nat.{le-antisymm, le-refl}
+use Prim.Native.Nat.{ℕ, _+_, _-_, _*_, _≤_, _<_}
+use native.Mathlib.Nat.{le-refl}
 use native.Mathlib.Numerals.{add-one}
 use native.Mathlib.Omega.{arith}
 use Rattle.lsh.specs.WordSize.{WordSize}
 use Rattle.lsh.specs.Step.{addMessage, step, unstep}
-use Rattle.lsh.specs.Expansion.{subMessage}
-use Rattle.lsh.specs.Block.{steps, unsteps, forward, backward}
-use Rattle.engine.specs.Rows.{row}
-use Rattle.engine.proofs.Rows.{Expanded}
+use Rattle.lsh.specs.Block.{steps, unsteps, forwardSteps, backwardSteps}
+use Rattle.engine.specs.Rows.{row, Expanded}
+use Rattle.engine.specs.Turns.{RunTo, RunBack}
 
--- forward, before turn k: r is the chain after 2k steps on r₀
-pub record Stepped (z : WordSize) (b r₀ r : List ℕ) (k : ℕ) : Type 0 where
-  pub upTo : k * 2 ≤ z .steps
-  pub chain : r ≡ steps z b (k * 2) r₀
+-- forward: the steps 0 to j - 1 lead from t to r
+pub record Stepped (z : WordSize) (m : List ℕ) (s j : ℕ) (t r : List ℕ) : Type 0 where
+  pub chain : (b : List ℕ) → Expanded z b m s → r ≡ steps z b j t
 
-pub stepped-none : (z : WordSize) (b r : List ℕ) → Stepped z b r r 0
+pub stepped-none : (z : WordSize) (m : List ℕ) (s : ℕ) (t : List ℕ) → Stepped z m s 0 t t
 unfolding steps
-stepped-none z b r = record { upTo = zero-le; chain = refl }
+stepped-none z m s t = record { chain = λ b has. refl }
 
-module _ {z : WordSize} {b m r₀ r : List ℕ} {k : ℕ} (has : Expanded z b m (z .steps)) where
-  pub stepped-more : (u : List ℕ) → Stepped z b r₀ r k → k * 2 + 1 < z .steps
-      → u ≡ step z (k * 2 + 1) (row m (k * 2 + 1)) (step z (k * 2) (row m (k * 2)) r)
-      → Stepped z b r₀ u (k + 1)
+-- q is the sub-message that a step takes from its row
+module _ {z : WordSize} {m t r : List ℕ} {s : ℕ} where
+  -- the same number of steps, written in another way
+  pub stepped-is : {i j : ℕ} → Stepped z m s i t r → i ≡ j → Stepped z m s j t r
+  stepped-is h e = record { chain = λ b has. h .chain b has ∙ ap (λ (k : ℕ). steps z b k t) e }
+
+  pub stepped-one : {q u : List ℕ} {j : ℕ} → Stepped z m s j t r → j ≤ s → q ≡ row m j → u ≡ step z j q r → Stepped z m s (j + 1) t u
   unfolding steps
-  stepped-more u h lt eu =
-      let next : k * 2 + 1 ≡ suc (k * 2) = add-one (k * 2) in
-      let after : (k + 1) * 2 ≡ suc (suc (k * 2)) = omega arith in
+  stepped-one {q} {u} {j} h le is e =
       record {
-        upTo = omega arith;
-        chain =
-            eu
-            ∙ ap₂ (λ (p q : List ℕ). step z (k * 2 + 1) p (step z (k * 2) q r)) (has .rows (k * 2 + 1) (omega arith)) (has .rows (k * 2) (omega arith))
-            ∙ ap₂ (λ (j : ℕ) (t : List ℕ). step z j (subMessage z b j) (step z (k * 2) (subMessage z b (k * 2)) t)) next (h .chain)
-            ∙ ap (λ (j : ℕ). steps z b j r₀) (sym after);
+        chain = λ b has. e ∙ ap₂ (step z j) (is ∙ has .rows j le) (h .chain b has) ∙ ap (λ (k : ℕ). steps z b k t) (sym (add-one j));
       }
 
-  pub stepped-all : (a : List ℕ) → Stepped z b r₀ r k → z .steps ≤ k * 2 → a ≡ addMessage z r (row m (z .steps)) → a ≡ forward z b r₀
-  unfolding forward
-  stepped-all a h le ea =
-      let end : k * 2 ≡ z .steps = le-antisymm (h .upTo) le in
-      ea ∙ ap₂ (addMessage z) (h .chain ∙ ap (λ (j : ℕ). steps z b j r₀) end) (has .rows (z .steps) (le-refl (z .steps)))
+  -- the exclusive or of M_s follows
+  pub stepped-all : {q u : List ℕ} {j : ℕ} → Stepped z m s j t r → j ≡ s → q ≡ row m s → u ≡ addMessage z r q → RunTo z m s t u
+  unfolding forwardSteps
+  stepped-all {q} {u} {j} h all is e =
+      record {
+        chain = λ b has. e ∙ ap₂ (addMessage z) (stepped-is h all .chain b has) (is ∙ has .rows s (le-refl s));
+      }
 
--- backward, with 2k steps left: they lead from r to where all of them lead from r₀
-pub record Unstepped (z : WordSize) (b r₀ r : List ℕ) (k : ℕ) : Type 0 where
-  pub upTo : k * 2 ≤ z .steps
-  pub chain : unsteps z b (k * 2) r ≡ unsteps z b (z .steps) r₀
+-- a turn
+pub stepped-two : {z : WordSize} {m t r v : List ℕ} {s : ℕ} (k : ℕ) → Stepped z m s (k * 2) t r → k * 2 + 1 ≤ s
+    → v ≡ step z (k * 2 + 1) (row m (k * 2 + 1)) (step z (k * 2) (row m (k * 2)) r) → Stepped z m s ((k + 1) * 2) t v
+stepped-two k h le e = stepped-is (stepped-one (stepped-one h (omega arith) refl refl) le refl e) (omega arith)
 
-pub unstepped-none : (z : WordSize) (b r : List ℕ) (k : ℕ) → k * 2 ≡ z .steps → Unstepped z b r r k
-unstepped-none z b r k e = record { upTo = omega arith; chain = ap (λ (j : ℕ). unsteps z b j r) e }
+-- backward: the exclusive or of M_s comes first
+pub unstepped-none : {z : WordSize} {m q r : List ℕ} {s : ℕ} (t : List ℕ) → q ≡ row m s → r ≡ addMessage z t q → RunBack z m s s t r
+unfolding backwardSteps
+unstepped-none {z} {m} {q} {r} {s} t is e =
+    record { chain = λ b has. ap (unsteps z b s) (e ∙ ap (addMessage z t) (is ∙ has .rows s (le-refl s))) }
 
-module _ {z : WordSize} {b m r₀ r : List ℕ} {k : ℕ} (has : Expanded z b m (z .steps)) where
-  pub unstepped-more : (u : List ℕ) → Unstepped z b r₀ r k → 0 < k
-      → u ≡ unstep z ((k - 1) * 2) (row m ((k - 1) * 2)) (unstep z ((k - 1) * 2 + 1) (row m ((k - 1) * 2 + 1)) r)
-      → Unstepped z b r₀ u (k - 1)
+module _ {z : WordSize} {m t r : List ℕ} {s : ℕ} where
+  pub unstepped-is : {i j : ℕ} → RunBack z m s i t r → i ≡ j → RunBack z m s j t r
+  unstepped-is h e = record { chain = λ b has. ap (λ (k : ℕ). unsteps z b k r) (sym e) ∙ h .chain b has }
+
+  pub unstepped-one : {q u : List ℕ} {j : ℕ} → RunBack z m s (j + 1) t r → j ≤ s → q ≡ row m j → u ≡ unstep z j q r → RunBack z m s j t u
   unfolding unsteps
-  unstepped-more u h lt eu =
-      let j : ℕ = (k - 1) * 2 in
-      let next : j + 1 ≡ suc j = add-one j in
-      let before : k * 2 ≡ suc (suc j) = omega arith in
-      let most : k * 2 ≤ z .steps = h .upTo in
+  unstepped-one {q} {u} {j} h le is e =
       record {
-        upTo = omega arith;
-        chain =
-            ap (unsteps z b j)
-            (eu
-            ∙ ap₂ (λ (p q : List ℕ). unstep z j p (unstep z (j + 1) q r)) (has .rows j (omega arith)) (has .rows (j + 1) (omega arith))
-            ∙ ap (λ (i : ℕ). unstep z j (subMessage z b j) (unstep z i (subMessage z b i) r)) next)
-            ∙ subst (λ (i : ℕ). unsteps z b i r ≡ unsteps z b (z .steps) r₀) before (h .chain);
+        chain = λ b has.
+            ap (unsteps z b j) (e ∙ ap (λ (p : List ℕ). unstep z j p r) (is ∙ has .rows j le))
+            ∙ ap (λ (k : ℕ). unsteps z b k r) (sym (add-one j))
+            ∙ h .chain b has;
       }
 
-  pub unstepped-all : (t : List ℕ) → Unstepped z b r₀ r k → k ≤ 0 → r₀ ≡ addMessage z t (row m (z .steps)) → r ≡ backward z b t
-  unfolding unsteps backward
-  unstepped-all t h le e =
-      let none : k * 2 ≡ 0 = omega arith in
-      subst (λ (i : ℕ). unsteps z b i r ≡ unsteps z b (z .steps) r₀) none (h .chain)
-      ∙ ap (unsteps z b (z .steps)) (e ∙ ap (addMessage z t) (has .rows (z .steps) (le-refl (z .steps))))
+pub unstepped-two : {z : WordSize} {m t r v : List ℕ} {s : ℕ} (k : ℕ) → RunBack z m s (k * 2) t r → 0 < k → k * 2 ≤ s
+    → v ≡ unstep z ((k - 1) * 2) (row m ((k - 1) * 2)) (unstep z ((k - 1) * 2 + 1) (row m ((k - 1) * 2 + 1)) r)
+    → RunBack z m s ((k - 1) * 2) t v
+unstepped-two k h some le e =
+    unstepped-one (unstepped-one (unstepped-is h (omega arith)) (omega arith) refl refl) (omega arith) refl e
+
+-- a block run with n steps, which are s
+module _ {z : WordSize} {b m r : List ℕ} {s n : ℕ} (has : Expanded z b m s) (is : s ≡ n) (t : List ℕ) where
+  pub run-to : RunTo z m n t r → r ≡ forwardSteps z s b t
+  run-to h = subst (λ (k : ℕ). Expanded z b m k → r ≡ forwardSteps z k b t) (sym is) (h .chain b) has
+
+  pub run-back : RunBack z m n 0 t r → r ≡ backwardSteps z s b t
+  unfolding unsteps
+  run-back h = subst (λ (k : ℕ). Expanded z b m k → r ≡ backwardSteps z k b t) (sym is) (h .chain b) has

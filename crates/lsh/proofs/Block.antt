@@ -1,12 +1,13 @@
--- A block run backward undoes the block run forward, and forward undoes backward, for every word size, every chain and every block.
+-- A block run backward undoes the block run forward, and forward undoes backward, for every word size, every number of steps, every chain
+-- and every block.
 -- Assumes nothing.
 use mathlib.Core.Path.{_≡_, refl, ap, _∙_}
 use mathlib.Core.List.{List}
 use Prim.Native.Nat.{ℕ, zero, suc}
 use Rattle.lsh.specs.WordSize.{WordSize}
-use Rattle.lsh.specs.Step.{addMessage, step, unstep}
+use Rattle.lsh.specs.Step.{addMessage, step}
 use Rattle.lsh.specs.Expansion.{subMessage}
-use Rattle.lsh.specs.Block.{Chain, steps, unsteps, forward, backward}
+use Rattle.lsh.specs.Block.{Chain, steps, unsteps, forwardSteps, backwardSteps}
 use Rattle.lsh.proofs.Figures.{Amounts}
 use Rattle.lsh.proofs.Step.{added-chain, added-twice, step-chain, unstep-chain, unstep-step, step-unstep}
 
@@ -34,23 +35,21 @@ module _ (z : WordSize) (ok : Amounts z) (b : List ℕ) where
       ap (step z j (subMessage z b j)) (steps-unsteps j _ (unstep-chain z ok j (subMessage z b j) t))
       ∙ step-unstep z ok j (subMessage z b j) t h
 
-  pub forward-chain : (t : List ℕ) → Chain z (forward z b t)
-  unfolding forward
-  forward-chain t = added-chain z _ _
+  module _ (s : ℕ) (t : List ℕ) where
+    pub forward-chain : Chain z (forwardSteps z s b t)
+    unfolding forwardSteps
+    forward-chain = added-chain z _ _
 
-  pub backward-chain : (t : List ℕ) → Chain z (backward z b t)
-  unfolding backward
-  backward-chain t = unsteps-chain (z .steps) _ (added-chain z t _)
+    pub backward-chain : Chain z (backwardSteps z s b t)
+    unfolding backwardSteps
+    backward-chain = unsteps-chain s _ (added-chain z t _)
 
-  pub backward-forward : (t : List ℕ) → Chain z t → backward z b (forward z b t) ≡ t
-  unfolding forward backward
-  backward-forward t h =
-      ap (unsteps z b (z .steps)) (added-twice z (steps z b (z .steps) t) _ (steps-chain (z .steps) t h))
-      ∙ unsteps-steps (z .steps) t h
+    pub backward-forward : Chain z t → backwardSteps z s b (forwardSteps z s b t) ≡ t
+    unfolding forwardSteps backwardSteps
+    backward-forward h = ap (unsteps z b s) (added-twice z (steps z b s t) _ (steps-chain s t h)) ∙ unsteps-steps s t h
 
-  pub forward-backward : (t : List ℕ) → Chain z t → forward z b (backward z b t) ≡ t
-  unfolding forward backward
-  forward-backward t h =
-      let m : List ℕ = subMessage z b (z .steps) in
-      ap (λ (u : List ℕ). addMessage z u m) (steps-unsteps (z .steps) (addMessage z t m) (added-chain z t m))
-      ∙ added-twice z t m h
+    pub forward-backward : Chain z t → forwardSteps z s b (backwardSteps z s b t) ≡ t
+    unfolding forwardSteps backwardSteps
+    forward-backward h =
+        let m : List ℕ = subMessage z b s in
+        ap (λ (u : List ℕ). addMessage z u m) (steps-unsteps s (addMessage z t m) (added-chain z t m)) ∙ added-twice z t m h

@@ -9,6 +9,7 @@ pub mod Block
 pub mod Blocks
 pub mod Bytes
 pub mod Padding
+pub mod Chains
 pub mod Splitting
 pub mod Opening
 pub mod Bench

@@ -50,12 +50,12 @@ first-chain w n e h =
     w e h
 
 pub opening-chain : (w n : ℕ) → Chain (sizeOf w) (opening (sizeOf w) n)
-unfolding opening
-opening-chain w n = forward-chain (sizeOf w) (amounts w) _ _
+unfolding opening forward
+opening-chain w n = forward-chain (sizeOf w) (amounts w) _ _ _
 
 pub opening-run : (w n : ℕ) (s : List ℕ) → isWordSize w ≡ true → s ≡ replicate (blockBytes (sizeOf w)) 0
     → forwards (sizeOf w) (blocksOf (sizeOf w) s) (firstChain w n) ≡ opening (sizeOf w) n
-unfolding forwards opening
+unfolding forwards forward opening
 opening-run w n s e is =
     let z : WordSize = sizeOf w in
     let len : length s ≡ blockBytes z = ap length is ∙ length-replicate (blockBytes z) 0 in

@@ -23,20 +23,36 @@ unfoldable pub unsteps : WordSize → List ℕ → ℕ → List ℕ → List ℕ
 unsteps z b zero t = t
 unsteps z b (suc j) t = unsteps z b j (unstep z j (subMessage z b j) t)
 
--- the compression function (Algorithm 2)
-unfoldable pub forward : WordSize → List ℕ → List ℕ → List ℕ
-forward z b t = addMessage z (steps z b (z .steps) t) (subMessage z b (z .steps))
+-- the compression function (Algorithm 2) with s steps: it ends with the exclusive or of M_s
+unfoldable pub forwardSteps : WordSize → ℕ → List ℕ → List ℕ → List ℕ
+forwardSteps z s b t = addMessage z (steps z b s t) (subMessage z b s)
 
 -- the same taken apart from the end
-unfoldable pub backward : WordSize → List ℕ → List ℕ → List ℕ
-backward z b t = unsteps z b (z .steps) (addMessage z t (subMessage z b (z .steps)))
+unfoldable pub backwardSteps : WordSize → ℕ → List ℕ → List ℕ → List ℕ
+backwardSteps z s b t = unsteps z b s (addMessage z t (subMessage z b s))
 
--- a list of blocks run forward in order, each on the chain that the one before gave
-unfoldable pub forwards : WordSize → List (List ℕ) → List ℕ → List ℕ
-forwards z [] t = t
-forwards z (b ∷ bs) t = forwards z bs (forward z b t)
+-- with all Ns steps
+unfoldable pub forward : WordSize → List ℕ → List ℕ → List ℕ
+forward z b t = forwardSteps z (z .steps) b t
+
+unfoldable pub backward : WordSize → List ℕ → List ℕ → List ℕ
+backward z b t = backwardSteps z (z .steps) b t
+
+-- a list of blocks run forward in order with s steps each, each on the chain that the one before gave
+unfoldable pub forwardsSteps : WordSize → ℕ → List (List ℕ) → List ℕ → List ℕ
+forwardsSteps z s [] t = t
+forwardsSteps z s (b ∷ bs) t = forwardsSteps z s bs (forwardSteps z s b t)
 
 -- and backward from the last
+unfoldable pub backwardsSteps : WordSize → ℕ → List (List ℕ) → List ℕ → List ℕ
+backwardsSteps z s [] t = t
+backwardsSteps z s (b ∷ bs) t = backwardSteps z s b (backwardsSteps z s bs t)
+
+-- with all Ns steps
+unfoldable pub forwards : WordSize → List (List ℕ) → List ℕ → List ℕ
+unfolding forwardsSteps
+forwards z bs t = forwardsSteps z (z .steps) bs t
+
 unfoldable pub backwards : WordSize → List (List ℕ) → List ℕ → List ℕ
-backwards z [] t = t
-backwards z (b ∷ bs) t = backward z b (backwards z bs t)
+unfolding backwardsSteps
+backwards z bs t = backwardsSteps z (z .steps) bs t

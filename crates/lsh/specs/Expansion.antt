@@ -1,7 +1,7 @@
 -- The sub-messages of a block.
 -- Assumes nothing.
 use mathlib.Core.List.{List}
-use Prim.Native.Nat.{ℕ, zero, suc, _+_, _*_, _/_, _%_}
+use Prim.Native.Nat.{ℕ, zero, suc}
 use lib.ListN.{take, drop}
 use Rattle.lsh.specs.Tabulate.{at, tabulate}
 use Rattle.lsh.specs.Word.{add}
@@ -19,7 +19,3 @@ subMessages z b (suc j) = (subMessages z b j .1, nextSubMessage z (subMessages z
 -- M_j
 unfoldable pub subMessage : WordSize → List ℕ → ℕ → List ℕ
 subMessage z b j = subMessages z b j .0
-
--- the message expansion function MSGEXP: M_0 to M_Ns end to end, word l of M_j at place 16j + l
-unfoldable pub expansion : WordSize → List ℕ → List ℕ
-expansion z b = tabulate (16 * (z .steps + 1)) (λ q. at (subMessage z b (q / 16)) (q % 16))

@@ -13,5 +13,6 @@ pub mod Block
 pub mod Opening
 pub mod Bits
 pub mod Padding
+pub mod Chains
 pub mod Hash
 pub mod Bench

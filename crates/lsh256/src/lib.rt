@@ -7,10 +7,11 @@ ghost use Rattle.lsh.specs.WordSize.{lsh256, chainBytes, blockBytes};
 ghost use Rattle.lsh.specs.StepConstants.{constants};
 ghost use Rattle.lsh.specs.Bytes.{wordsOf, bytesOf};
 ghost use Rattle.lsh.specs.Step.{step, unstep};
-ghost use Rattle.lsh.specs.Expansion.{nextSubMessage, expansion};
-ghost use Rattle.lsh.specs.Block.{forward, backward, forwards, backwards};
+ghost use Rattle.lsh.specs.Expansion.{nextSubMessage};
+ghost use Rattle.lsh.specs.Block.{forwardSteps, backwardSteps, forwardsSteps, backwardsSteps};
 ghost use Rattle.lsh.specs.Padding.{blocksOf};
-ghost use Rattle.engine.specs.Rows.{expandedWords, row};
+ghost use Rattle.engine.specs.Rows.{expandedWords, row, Expanded};
+ghost use Rattle.engine.specs.Turns.{RunTo, RunBack};
 pub use constants256::Lsh256;
 
 // A chain after whole blocks, and how many there were.
@@ -66,26 +67,26 @@ fn next_sub_message(p: [u32; 16], q: [u32; 16]) -> [u32; 16]
     r
 }
 
-// M_2 to M_26, from M_0 and M_1. The row before is at hand, and the one before that is read again: so the compiler works on four words at once.
-fn expand(m: &mut [u32])
-    requires { ⌜ length (now m) ≡ expandedWords lsh256 ⌝ }
-    ensures { λ _. ⌜ now (m .exit) ≡ expansion lsh256 (take 32 (now (m .entry))) ⌝ }
+// M_2 to M_steps, from M_0 and M_1. The row before is at hand, and the one before that is read again: so the compiler works on four words at once.
+fn expand(m: &mut [u32], steps: usize)
+    requires { ⌜ (length (now m) ≡ expandedWords lsh256) × (1 ≤ steps) × (steps ≤ lsh256 .steps) ⌝ }
+    ensures { λ _. ⌜ Expanded lsh256 (take 32 (now (m .entry))) (now (m .exit)) steps ⌝ }
 {
     let mut p = sub_message(m, 1);
-    for j in 0..Lsh256::STEPS - 1 {
+    for j in 0..steps - 1 {
         let r = next_sub_message(p, sub_message(m, j));
         put_sub_message(m, j + 2, r);
         p = r;
     }
 }
 
-// All the sub-messages of the block s.
-fn expand_block(m: &mut [u32], s: &[u8])
-    requires { ⌜ (length (now m) ≡ expandedWords lsh256) × (length (now s) ≡ blockBytes lsh256) ⌝ }
-    ensures { λ _. ⌜ now (m .exit) ≡ expansion lsh256 (wordsOf lsh256 32 (now (s .entry))) ⌝ }
+// The sub-messages of the block s up to M_steps.
+fn expand_block(m: &mut [u32], steps: usize, s: &[u8])
+    requires { ⌜ (length (now m) ≡ expandedWords lsh256) × (1 ≤ steps) × (steps ≤ lsh256 .steps) × (length (now s) ≡ blockBytes lsh256) ⌝ }
+    ensures { λ _. ⌜ Expanded lsh256 (wordsOf lsh256 32 (now (s .entry))) (now (m .exit)) steps ⌝ }
 {
     load_block(m, s);
-    expand(m);
+    expand(m, steps);
 }
 
 // The steps j and j + 1: with an even j the amounts of both are constants to the compiler.
@@ -105,12 +106,11 @@ fn two_unsteps(sc: &[u32; Lsh256::CONSTANTS], m: &[u32], j: usize, t: [u32; 16])
     steps256::unstep(sc, j, sub_message(m, j), u)
 }
 
-// The block s on the chain t. m is room for the sub-messages.
-fn forward_block(sc: &[u32; Lsh256::CONSTANTS], m: &mut [u32], s: &[u8], t: [u32; 16]) -> [u32; 16]
-    requires { ⌜ (now sc ≡ constants lsh256) × (length (now m) ≡ expandedWords lsh256) × (length (now s) ≡ blockBytes lsh256) ⌝ }
-    ensures { λ r. ⌜ r ≡ forward lsh256 (wordsOf lsh256 32 (now (s .entry))) t ⌝ }
+// All the steps on the chain t, and then M_Ns. Full runs have loops of their own: the number of turns is a constant to the compiler.
+fn all_steps(sc: &[u32; Lsh256::CONSTANTS], m: &[u32], t: [u32; 16]) -> [u32; 16]
+    requires { ⌜ (now sc ≡ constants lsh256) × (length (now m) ≡ expandedWords lsh256) ⌝ }
+    ensures { λ r. ⌜ RunTo lsh256 (now (m .entry)) (lsh256 .steps) t r ⌝ }
 {
-    expand_block(m, s);
     let mut r = t;
     for k in 0..Lsh256::STEPS / 2 {
         let u = two_steps(sc, m, k * 2, r);
@@ -119,11 +119,10 @@ fn forward_block(sc: &[u32; Lsh256::CONSTANTS], m: &mut [u32], s: &[u8], t: [u32
     steps256::add_message(r, sub_message(m, Lsh256::STEPS))
 }
 
-fn backward_block(sc: &[u32; Lsh256::CONSTANTS], m: &mut [u32], s: &[u8], t: [u32; 16]) -> [u32; 16]
-    requires { ⌜ (now sc ≡ constants lsh256) × (length (now m) ≡ expandedWords lsh256) × (length (now s) ≡ blockBytes lsh256) ⌝ }
-    ensures { λ r. ⌜ r ≡ backward lsh256 (wordsOf lsh256 32 (now (s .entry))) t ⌝ }
+fn all_unsteps(sc: &[u32; Lsh256::CONSTANTS], m: &[u32], t: [u32; 16]) -> [u32; 16]
+    requires { ⌜ (now sc ≡ constants lsh256) × (length (now m) ≡ expandedWords lsh256) ⌝ }
+    ensures { λ r. ⌜ RunBack lsh256 (now (m .entry)) (lsh256 .steps) 0 t r ⌝ }
 {
-    expand_block(m, s);
     let mut r = steps256::add_message(t, sub_message(m, Lsh256::STEPS));
     let mut k = Lsh256::STEPS / 2;
     while 0 < k {
@@ -134,14 +133,95 @@ fn backward_block(sc: &[u32; Lsh256::CONSTANTS], m: &mut [u32], s: &[u8], t: [u3
     r
 }
 
+// Any number of steps: an odd one ends in the middle of a turn.
+fn some_steps(sc: &[u32; Lsh256::CONSTANTS], m: &[u32], steps: usize, t: [u32; 16]) -> [u32; 16]
+    requires { ⌜ (now sc ≡ constants lsh256) × (length (now m) ≡ expandedWords lsh256) × (steps ≤ lsh256 .steps) ⌝ }
+    ensures { λ r. ⌜ RunTo lsh256 (now (m .entry)) steps t r ⌝ }
+{
+    let mut r = t;
+    for k in 0..(steps + 1) / 2 {
+        let j = k * 2;
+        let u = steps256::step(sc, j, sub_message(m, j), r);
+        let i = j + 1;
+        if i == steps {
+            return steps256::add_message(u, sub_message(m, steps));
+        }
+        let v = steps256::step(sc, i, sub_message(m, i), u);
+        r = v;
+    }
+    steps256::add_message(r, sub_message(m, steps))
+}
+
+fn some_unsteps(sc: &[u32; Lsh256::CONSTANTS], m: &[u32], steps: usize, t: [u32; 16]) -> [u32; 16]
+    requires { ⌜ (now sc ≡ constants lsh256) × (length (now m) ≡ expandedWords lsh256) × (steps ≤ lsh256 .steps) ⌝ }
+    ensures { λ r. ⌜ RunBack lsh256 (now (m .entry)) steps 0 t r ⌝ }
+{
+    let mut r = last_unstep(sc, m, steps, t);
+    let mut k = steps / 2;
+    while 0 < k {
+        k -= 1;
+        let u = two_unsteps(sc, m, k * 2, r);
+        r = u;
+    }
+    r
+}
+
+// M_steps, and the last of an odd number of steps, so that pairs are left.
+fn last_unstep(sc: &[u32; Lsh256::CONSTANTS], m: &[u32], steps: usize, t: [u32; 16]) -> [u32; 16]
+    requires { ⌜ (now sc ≡ constants lsh256) × (length (now m) ≡ expandedWords lsh256) × (steps ≤ lsh256 .steps) ⌝ }
+    ensures { λ r. ⌜ RunBack lsh256 (now (m .entry)) steps (steps / 2 * 2) t r ⌝ }
+{
+    let r = steps256::add_message(t, sub_message(m, steps));
+    if steps % 2 == 0 {
+        return r;
+    }
+    steps256::unstep(sc, steps - 1, sub_message(m, steps - 1), r)
+}
+
+// The block s on the chain t, with this number of steps. m is room for the sub-messages.
+fn forward_block(
+    sc: &[u32; Lsh256::CONSTANTS],
+    m: &mut [u32],
+    steps: usize,
+    s: &[u8],
+    t: [u32; 16],
+) -> [u32; 16]
+    requires { ⌜ (now sc ≡ constants lsh256) × (length (now m) ≡ expandedWords lsh256) × (1 ≤ steps) × (steps ≤ lsh256 .steps) × (length (now s) ≡ blockBytes lsh256) ⌝ }
+    ensures { λ r. ⌜ r ≡ forwardSteps lsh256 steps (wordsOf lsh256 32 (now (s .entry))) t ⌝ }
+{
+    expand_block(m, steps, s);
+    if steps == Lsh256::STEPS {
+        return all_steps(sc, m, t);
+    }
+    some_steps(sc, m, steps, t)
+}
+
+fn backward_block(
+    sc: &[u32; Lsh256::CONSTANTS],
+    m: &mut [u32],
+    steps: usize,
+    s: &[u8],
+    t: [u32; 16],
+) -> [u32; 16]
+    requires { ⌜ (now sc ≡ constants lsh256) × (length (now m) ≡ expandedWords lsh256) × (1 ≤ steps) × (steps ≤ lsh256 .steps) × (length (now s) ≡ blockBytes lsh256) ⌝ }
+    ensures { λ r. ⌜ r ≡ backwardSteps lsh256 steps (wordsOf lsh256 32 (now (s .entry))) t ⌝ }
+{
+    expand_block(m, steps, s);
+    if steps == Lsh256::STEPS {
+        return all_unsteps(sc, m, t);
+    }
+    some_unsteps(sc, m, steps, t)
+}
+
 // Room for the sub-messages of a block.
 fn room() -> [u32; Lsh256::EXPANDED] {
     [0u32; Lsh256::EXPANDED]
 }
 
-// Runs the whole blocks of s forward, in order, on the chain t.
-pub fn forward(t: [u32; 16], s: &[u8]) -> Run
-    ensures { λ r. ⌜ (r .chain ≡ forwards lsh256 (blocksOf lsh256 (now (s .entry))) t) × (r .count ≡ length (now (s .entry)) / blockBytes lsh256) ⌝ }
+// Runs the whole blocks of s forward, in order, on the chain t, with this number of steps each.
+pub fn forward(steps: usize, t: [u32; 16], s: &[u8]) -> Run
+    requires { ⌜ (1 ≤ steps) × (steps ≤ lsh256 .steps) ⌝ }
+    ensures { λ r. ⌜ (r .chain ≡ forwardsSteps lsh256 steps (blocksOf lsh256 (now (s .entry))) t) × (r .count ≡ length (now (s .entry)) / blockBytes lsh256) ⌝ }
 {
     let sc = constants256::step_constants();
     let mut m = room();
@@ -151,7 +231,7 @@ pub fn forward(t: [u32; 16], s: &[u8]) -> Run
     while count < n {
         let a = count * Lsh256::BLOCK;
         let e = a + Lsh256::BLOCK;
-        let next = forward_block(&sc, &mut m, &s[a..e], c);
+        let next = forward_block(&sc, &mut m, steps, &s[a..e], c);
         c = next;
         count += 1;
     }
@@ -162,8 +242,9 @@ pub fn forward(t: [u32; 16], s: &[u8]) -> Run
 }
 
 // Runs the whole blocks of s backward, from the last, on the chain t.
-pub fn backward(t: [u32; 16], s: &[u8]) -> Run
-    ensures { λ r. ⌜ (r .chain ≡ backwards lsh256 (blocksOf lsh256 (now (s .entry))) t) × (r .count ≡ length (now (s .entry)) / blockBytes lsh256) ⌝ }
+pub fn backward(steps: usize, t: [u32; 16], s: &[u8]) -> Run
+    requires { ⌜ (1 ≤ steps) × (steps ≤ lsh256 .steps) ⌝ }
+    ensures { λ r. ⌜ (r .chain ≡ backwardsSteps lsh256 steps (blocksOf lsh256 (now (s .entry))) t) × (r .count ≡ length (now (s .entry)) / blockBytes lsh256) ⌝ }
 {
     let sc = constants256::step_constants();
     let mut m = room();
@@ -174,7 +255,7 @@ pub fn backward(t: [u32; 16], s: &[u8]) -> Run
         left -= 1;
         let a = left * Lsh256::BLOCK;
         let e = a + Lsh256::BLOCK;
-        let before = backward_block(&sc, &mut m, &s[a..e], c);
+        let before = backward_block(&sc, &mut m, steps, &s[a..e], c);
         c = before;
         count += 1;
     }

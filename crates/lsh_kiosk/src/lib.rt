@@ -13,7 +13,7 @@ ghost use Rattle.split_rewind.specs.Abandon.{abandonCall};
 ghost use Rattle.checkpoints.specs.FreeSlot.{freeSlot, FreeChoice};
 ghost use Rattle.append_roll.specs.AppendRoll.{appendRollCall, appendedRoll};
 ghost use Rattle.rewind_roll.specs.RewindRoll.{rewindRollCall, rewoundRoll};
-ghost use Rattle.end_roll.specs.EndRoll.{endRollCall, endedRoll};
+ghost use Rattle.rewind_roll.specs.EndRoll.{endRollCall, endedRoll};
 ghost use Rattle.close.specs.Close.{closeAnswer, closeOutput};
 ghost use Rattle.whole.specs.Whole.{wholeAnswer, wholeOutput};
 ghost use Rattle.same.specs.Same.{sameCall};
@@ -108,7 +108,7 @@ pub extern "C" fn lsh_rewind_roll(r: Record, keep: u64, h: &[u8], roll: &mut [u8
 pub extern "C" fn lsh_end_roll(r: Record, keep: u64, roll: &mut [u8]) -> Outcome
     ensures { λ o. ⌜ (o ≡ endRollCall r keep (now (roll .entry))) × (now (roll .exit) ≡ endedRoll r keep (now (roll .entry))) ⌝ }
 {
-    end_roll::end_roll(r, keep, roll)
+    rewind_roll::end_roll(r, keep, roll)
 }
 
 #[no_mangle]

@@ -4,3 +4,4 @@ pub mod Sound
 pub mod Begun
 pub mod Held
 pub mod Strings
+pub mod InTurn

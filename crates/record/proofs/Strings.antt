@@ -14,10 +14,12 @@ use Rattle.lsh.specs.WordSize.{WordSize, isWordSize, sizeOf, blockBytes}
 use Rattle.lsh.specs.Block.{Chain, forwards}
 use Rattle.lsh.specs.Opening.{opening}
 use Rattle.lsh.specs.Padding.{firstBlocks, blocksOf, restOf}
+use Rattle.lsh.specs.Chains.{chainAfter}
 use Rattle.lsh.proofs.Figures.{amounts, block-some}
 use Rattle.lsh.proofs.Blocks.{forwards-chain}
 use Rattle.lsh.proofs.Opening.{opening-chain}
-use Rattle.lsh.proofs.Padding.{firstBlocks-front, length-rest, rest-none}
+use Rattle.lsh.proofs.Padding.{length-rest, rest-none}
+use Rattle.lsh.proofs.Chains.{after-take}
 use Rattle.runs.specs.Limits.{longestBlock, isDigestLength, limit}
 use Rattle.runs.specs.ZeroFilled.{zeroFilled}
 use Rattle.runs.proofs.Zeros.{drop-replicate}
@@ -77,24 +79,19 @@ record-idle w n m = refl
 
 -- the chain after the first k blocks of s, with no held bytes, is the record of those blocks
 pub record-at : (w n k : ℕ) (s : List ℕ) → k * blockBytes (sizeOf w) ≤ length s
-    → recordAt w n k (forwards (sizeOf w) (firstBlocks (sizeOf w) k s) (opening (sizeOf w) n)) ≡ recordOf w n (take (k * blockBytes (sizeOf w)) s)
-unfolding recordAt recordOf blocksOf
+    → recordAt w n k (chainAfter (sizeOf w) (opening (sizeOf w) n) s k) ≡ recordOf w n (take (k * blockBytes (sizeOf w)) s)
+unfolding recordAt recordOf
 record-at w n k s le =
     let z : WordSize = sizeOf w in
     let B : ℕ = blockBytes z in
     let front : List ℕ = take (k * B) s in
     let size : length front ≡ k * B = length-take-le (k * B) s le in
-    let count : length front / B ≡ k = ap (λ (m : ℕ). m / B) size ∙ mul-div-cancel k (block-some w) in
-    let blocks : firstBlocks z k s ≡ firstBlocks z (length front / B) front =
-    ap (firstBlocks z k) (sym (take-append-drop (k * B) s))
-    ∙ firstBlocks-front z k front (drop (k * B) s) (le-of-eq (sym size))
-    ∙ ap (λ (m : ℕ). firstBlocks z m front) (sym count) in
     let none : restOf z front ≡ [] = rest-none z (block-some w) front (ap (λ (m : ℕ). m % B) size ∙ mul-mod-left k B) in
     λ i. record {
       w = w;
       n = n;
       total = sym size i;
-      chain = ap (λ (bs : List (List ℕ)). forwards z bs (opening z n)) blocks i;
+      chain = after-take z (block-some w) (opening z n) s k le i;
       held = ap heldOf (sym none) i;
       split = notBegun;
     }

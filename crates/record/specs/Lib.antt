@@ -3,3 +3,4 @@ pub mod Split
 pub mod Record
 pub mod Arrays
 pub mod Open
+pub mod Turn

@@ -10,6 +10,7 @@ ghost use Rattle.record.specs.Lists.{allBelow, allZero};
 ghost use Rattle.record.specs.Split.{notBegun, noneBegun, oneBegun, splitSound};
 ghost use Rattle.record.specs.Record.{heldOf, heldLength, sound, zeros, isBegun, stepped, refused};
 ghost use Rattle.record.specs.Open.{opened, openCall};
+ghost use Rattle.record.specs.Turn.{turnAnswer};
 use runs::LONGEST_BLOCK;
 
 // What is kept of an order between calls: the word size, the digest length in bits, how many bytes there were, the chain after
@@ -114,6 +115,19 @@ pub fn no_record() -> Record
         held: [0u8; LONGEST_BLOCK],
         split: s,
     }
+}
+
+// The answer of the tests that every call makes which changes an order, where out says whether it is out of turn.
+pub fn turn(r: Record, out: bool) -> u32
+    ensures { λ a. ⌜ a ≡ turnAnswer r out ⌝ }
+{
+    if !is_sound(r) {
+        return 3;
+    }
+    if out {
+        return 17;
+    }
+    0
 }
 
 // What a record has of a split rewind while none is begun.

@@ -83,7 +83,7 @@ fn call(kind: u64, v: [u64; WORDS], r: Record, given: &[u8], roll: &mut [u8]) ->
         // rewindroll KEEP BYTES
         REWINDROLL => rewind_roll::rewind_roll(r, v[0], words::part(given, 0, v[1]), roll),
         // endroll KEEP
-        ENDROLL => end_roll::end_roll(r, v[0], roll),
+        ENDROLL => rewind_roll::end_roll(r, v[0], roll),
         _ => record::refused(0, r),
     }
 }

@@ -13,7 +13,8 @@ use Rattle.equal.specs.Equal.{equal}
 use Rattle.record.specs.declared.Record.{Record}
 use Rattle.record.specs.declared.Outcome.{Outcome}
 use Rattle.record.specs.Split.{notBegun}
-use Rattle.record.specs.Record.{heldOf, heldLength, heldBytes, sound, isBegun, refused}
+use Rattle.record.specs.Record.{heldOf, heldLength, heldBytes, isBegun, refused}
+use Rattle.record.specs.Turn.{inTurn}
 
 -- 6, with blocks of b bytes: the size bytes handed back are more than the total, or do not begin with a block
 unfoldable pub startsOffBlock : ℕ → ℕ → ℕ → Bool
@@ -31,27 +32,44 @@ heldDiffers r h = not (equal (drop (length h - heldLength (r .w) (r .total)) h) 
 unfoldable pub reached : Record → List ℕ → List ℕ
 reached r h = backwards (sizeOf (r .w)) (blocksOf (sizeOf (r .w)) h) (r .chain)
 
--- 9, where size bytes were handed back and lead back to the chain c: they are the whole order, and c is not the opening chain
-unfoldable pub openingDiffers : Record → ℕ → List ℕ → Bool
-openingDiffers r size c = eqb (r .total - size) 0 && not (equal c (opening (sizeOf (r .w)) (r .n)))
+-- the end of an order that is cut off: how many bytes were handed back, how many of them remain, the chain that they lead back to, and the bytes whose
+-- first remain
+pub record Cut : Type 0 where
+  pub size : ℕ
+  pub keep : ℕ
+  pub chain : List ℕ
+  pub bytes : List ℕ
 
--- the record of what remains: the chain is c, and the first keep of the bytes s are held
-unfoldable pub rewound : Record → ℕ → ℕ → List ℕ → List ℕ → Record
-rewound r size keep c s =
-    record { w = r .w; n = r .n; total = r .total - size + keep; chain = c; held = heldOf (take keep s); split = notBegun }
+-- 9: all of the order was handed back, and the chain reached is not the opening chain
+unfoldable pub openingDiffers : Record → Cut → Bool
+openingDiffers r c = eqb (r .total - c .size) 0 && not (equal (c .chain) (opening (sizeOf (r .w)) (r .n)))
+
+-- the record of what remains
+unfoldable pub rewound : Record → Cut → Record
+rewound r c =
+    record {
+      w = r .w;
+      n = r .n;
+      total = r .total - c .size + c .keep;
+      chain = c .chain;
+      held = heldOf (take (c .keep) (c .bytes));
+      split = notBegun;
+    }
 
 -- the answer where the tests before 9 are passed: 9, else 0 with the number of blocks run backward
-unfoldable pub woundBack : Record → ℕ → ℕ → List ℕ → List ℕ → Outcome
-woundBack r size keep c s =
-    cond (openingDiffers r size c) (refused 9 r)
-    (record { number = 0; count = size / blockBytes (sizeOf (r .w)); next = rewound r size keep c s })
+unfoldable pub cutCall : Record → Cut → Outcome
+cutCall r c =
+    cond (openingDiffers r c) (refused 9 r)
+    (record { number = 0; count = c .size / blockBytes (sizeOf (r .w)); next = rewound r c })
 
--- Rewind: 3 if the record is not sound, then 17 if a split rewind is begun, and then 6, 7, 8, 9, else 0
-unfoldable pub rewindCall : Record → ℕ → List ℕ → Outcome
-rewindCall r keep h =
-    cond (not (sound r)) (refused 3 r)
-    (cond (isBegun r) (refused 17 r)
-    (cond (startsOffBlock (blockBytes (sizeOf (r .w))) (r .total) (length h)) (refused 6 r)
+-- a Rewind in turn: 6, 7, 8, 9, else 0
+unfoldable pub rewindInTurn : Record → ℕ → List ℕ → Outcome
+rewindInTurn r keep h =
+    cond (startsOffBlock (blockBytes (sizeOf (r .w))) (r .total) (length h)) (refused 6 r)
     (cond (keepsTooMuch (blockBytes (sizeOf (r .w))) keep (length h)) (refused 7 r)
     (cond (heldDiffers r h) (refused 8 r)
-    (woundBack r (length h) keep (reached r h) h)))))
+    (cutCall r (record { size = length h; keep = keep; chain = reached r h; bytes = h }))))
+
+-- Rewind: out of turn while a split rewind is begun
+unfoldable pub rewindCall : Record → ℕ → List ℕ → Outcome
+rewindCall r keep h = inTurn r (isBegun r) (rewindInTurn r keep h)

@@ -8,8 +8,8 @@ ghost use Rattle.lsh.specs.WordSize.{isWordSize, sizeOf, blockBytes};
 ghost use Rattle.lsh.specs.Opening.{opening};
 ghost use Rattle.runs.specs.Limits.{isDigestLength};
 ghost use Rattle.equal.specs.Equal.{equal};
-ghost use Rattle.record.specs.Record.{heldLength, sound, isBegun};
-ghost use Rattle.rewind.specs.Rewind.{startsOffBlock, keepsTooMuch, heldDiffers, woundBack, rewindCall};
+ghost use Rattle.record.specs.Record.{heldLength, sound};
+ghost use Rattle.rewind.specs.Rewind.{startsOffBlock, keepsTooMuch, heldDiffers, cutCall, rewindInTurn, rewindCall};
 use record::Outcome;
 use record::Record;
 
@@ -17,12 +17,18 @@ use record::Record;
 pub fn rewind(r: Record, keep: u64, h: &[u8]) -> Outcome
     ensures { λ o. ⌜ o ≡ rewindCall r keep (now (h .entry)) ⌝ }
 {
-    if !record::is_sound(r) {
-        return record::refused(3, r);
+    let a = record::turn(r, record::is_begun(r));
+    if a != 0 {
+        return record::refused(a, r);
     }
-    if record::is_begun(r) {
-        return record::refused(17, r);
-    }
+    in_turn(r, keep, h)
+}
+
+// The answer where the call is in turn.
+pub fn in_turn(r: Record, keep: u64, h: &[u8]) -> Outcome
+    requires { ⌜ sound r ≡ true ⌝ }
+    ensures { λ o. ⌜ o ≡ rewindInTurn r keep (now (h .entry)) ⌝ }
+{
     let size = h.len() as u64;
     if starts_off_block(r.w, r.total, size) {
         return record::refused(6, r);
@@ -54,10 +60,9 @@ pub fn keeps_too_much(w: u64, keep: u64, size: u64) -> bool
 // Where the lengths are right.
 fn rewind_bytes(r: Record, keep: u64, h: &[u8]) -> Outcome
     requires { ⌜ (sound r ≡ true)
-        × (isBegun r ≡ false)
         × (startsOffBlock (blockBytes (sizeOf (r .w))) (r .total) (length (now h)) ≡ false)
         × (keepsTooMuch (blockBytes (sizeOf (r .w))) keep (length (now h)) ≡ false) ⌝ }
-    ensures { λ o. ⌜ o ≡ rewindCall r keep (now (h .entry)) ⌝ }
+    ensures { λ o. ⌜ o ≡ rewindInTurn r keep (now (h .entry)) ⌝ }
 {
     if held_differs(r, h) {
         return record::refused(8, r);
@@ -65,19 +70,19 @@ fn rewind_bytes(r: Record, keep: u64, h: &[u8]) -> Outcome
     let chain = r.chain;
     let run = runs::backward(r.w, chain, h);
     let c = run.chain;
-    wound_back(r, run.count as u64, h.len() as u64, keep, c, h)
+    cut(r, run.count as u64, h.len() as u64, keep, c, h)
 }
 
 // The answer where size bytes were handed back, which lead back to the chain c over count blocks, and the first keep of the bytes s remain.
 // 9 is known only after the run, which is on copies, so a refusal has nothing to undo.
-pub fn wound_back(r: Record, count: u64, size: u64, keep: u64, c: [u64; 16], s: &[u8]) -> Outcome
+pub fn cut(r: Record, count: u64, size: u64, keep: u64, c: [u64; 16], s: &[u8]) -> Outcome
     requires { ⌜ (sound r ≡ true)
         × (count ≡ size / blockBytes (sizeOf (r .w)))
         × (size ≤ r .total)
         × (keep ≤ size)
         × (keep < blockBytes (sizeOf (r .w)))
         × (keep ≤ length (now s)) ⌝ }
-    ensures { λ o. ⌜ o ≡ woundBack r size keep c (now (s .entry)) ⌝ }
+    ensures { λ o. ⌜ o ≡ cutCall r (record { size = size; keep = keep; chain = c; bytes = now (s .entry) }) ⌝ }
 {
     let w = r.w;
     let n = r.n;
@@ -86,14 +91,14 @@ pub fn wound_back(r: Record, count: u64, size: u64, keep: u64, c: [u64; 16], s: 
     if opening_differs(w, n, left, c) {
         return record::refused(9, r);
     }
-    let kept = record::hold(&s[..keep as usize]);
+    let remains = record::hold(&s[..keep as usize]);
     let none = record::not_begun();
     let next = Record {
         w: w,
         n: n,
         total: left + keep,
         chain: c,
-        held: kept,
+        held: remains,
         split: none,
     };
     Outcome {

@@ -1,1 +1,2 @@
 pub mod RewindRoll
+pub mod EndRoll

@@ -1,30 +1,24 @@
 -- Rewind with a roll: the answer's number, the count of blocks and the record that follows, and the bytes of the roll after the call.
 -- Assumes nothing.
-use mathlib.Core.Bool.{not, cond}
 use mathlib.Core.List.{List}
-use Prim.Native.Nat.{ℕ}
-use lib.Dec.{eqb}
-use Rattle.lsh.specs.WordSize.{sizeOf}
+use Prim.Native.Nat.{ℕ, _/_}
+use Rattle.lsh.specs.WordSize.{sizeOf, blockBytes}
 use Rattle.record.specs.declared.Record.{Record}
 use Rattle.record.specs.declared.Outcome.{Outcome}
-use Rattle.record.specs.Record.{sound, isBegun, refused}
-use Rattle.rewind.specs.Rewind.{rewindCall}
-use Rattle.checkpoints.specs.Roll.{checkpoints, isRollOf}
-use Rattle.checkpoints.specs.Checkpoints.{unlinked}
+use Rattle.record.specs.Record.{isBegun}
+use Rattle.record.specs.Turn.{answered}
+use Rattle.rewind.specs.Rewind.{rewindInTurn}
+use Rattle.checkpoints.specs.Roll.{rollAnswer}
+use Rattle.checkpoints.specs.Checkpoints.{cutTo, ifAccepted}
 
--- 3 if the record is not sound, then 17 if a split rewind is begun, 15 if the roll is none of the record, and then as Rewind without a roll: 6, 7, 8, 9,
--- else 0
+-- out of turn while a split rewind is begun; 15 if the roll is none of the record, and then as Rewind without a roll
 unfoldable pub rewindRollCall : Record → ℕ → List ℕ → List ℕ → Outcome
-rewindRollCall r keep h roll =
-    cond (not (sound r)) (refused 3 r)
-    (cond (isBegun r) (refused 17 r)
-    (cond (not (isRollOf r roll)) (refused 15 r)
-    (rewindCall r keep h)))
+rewindRollCall r keep h roll = answered (rollAnswer r (isBegun r) roll) r (rewindInTurn r keep h)
 
 -- the roll after a call that takes bytes off the order of a record, by its answer: if it is accepted, the checkpoints past the new end are taken off,
 -- and one at it stays
 unfoldable pub cutRoll : ℕ → Outcome → List ℕ → List ℕ
-cutRoll w o roll = cond (eqb (o .number) 0) (unlinked (sizeOf w) (checkpoints w (o .next .total)) roll) roll
+cutRoll w o roll = ifAccepted o (cutTo (sizeOf w) (o .next .total / blockBytes (sizeOf w)) roll) roll
 
 unfoldable pub rewoundRoll : Record → ℕ → List ℕ → List ℕ → List ℕ
 rewoundRoll r keep h roll = cutRoll (r .w) (rewindRollCall r keep h roll) roll

@@ -1,4 +1,5 @@
-// Rewind with a roll: the end of an order is taken back, and the checkpoints past the new end are taken off its roll.
+// Rewind and the end of a split rewind with a roll: the end of an order is taken back, and the checkpoints past the new end are taken off its roll. The
+// roll is written last, when the answer is known.
 ghost use mathlib.Core.Path.{_≡_};
 ghost use mathlib.Core.Bool.{true};
 ghost use mathlib.Core.List.{List};
@@ -7,22 +8,33 @@ ghost use Rattle.lsh.specs.WordSize.{sizeOf};
 ghost use Rattle.checkpoints.specs.Roll.{isRoll};
 ghost use Rattle.roll.specs.Way.{wayOf};
 ghost use Rattle.rewind_roll.specs.RewindRoll.{rewindRollCall, cutRoll, rewoundRoll};
+ghost use Rattle.rewind_roll.specs.EndRoll.{endRollCall, endedRoll};
 use record::Outcome;
 use record::Record;
 use roll::Way;
 
-// The record after its last bytes h were handed back and the first keep of them remain. The roll is written last, when the answer is known.
+// The record after its last bytes h were handed back and the first keep of them remain.
 pub fn rewind_roll(r: Record, keep: u64, h: &[u8], roll: &mut [u8]) -> Outcome
     ensures { λ o. ⌜ (o ≡ rewindRollCall r keep (now (h .entry)) (now (roll .entry))) × (now (roll .exit) ≡ rewoundRoll r keep (now (h .entry)) (now (roll .entry))) ⌝ }
 {
     let y = roll::walk(r.w, roll);
-    let o = outcome(r, keep, h, y);
+    let o = rewound(r, keep, h, y);
+    cut_roll(r.w, o, roll, y);
+    o
+}
+
+// The record of what remains, where the first keep of the bytes handed back in steps are kept.
+pub fn end_roll(r: Record, keep: u64, roll: &mut [u8]) -> Outcome
+    ensures { λ o. ⌜ (o ≡ endRollCall r keep (now (roll .entry))) × (now (roll .exit) ≡ endedRoll r keep (now (roll .entry))) ⌝ }
+{
+    let y = roll::walk(r.w, roll);
+    let o = ended(r, keep, y);
     cut_roll(r.w, o, roll, y);
     o
 }
 
 // Takes the checkpoints past the new end off the roll, if the answer is 0.
-pub fn cut_roll(w: u64, o: Outcome, roll: &mut [u8], y: Way)
+fn cut_roll(w: u64, o: Outcome, roll: &mut [u8], y: Way)
     requires { ⌜ (y ≡ wayOf (sizeOf w) (now roll)) × (o .number ≡ 0 → isRoll (sizeOf w) (now roll) ≡ true) ⌝ }
     ensures { λ _. ⌜ now (roll .exit) ≡ cutRoll w o (now (roll .entry)) ⌝ }
 {
@@ -34,13 +46,24 @@ pub fn cut_roll(w: u64, o: Outcome, roll: &mut [u8], y: Way)
     roll::unlink(w, roll, y.count, m);
 }
 
-// The answer, where y is what is known of the roll.
-fn outcome(r: Record, keep: u64, h: &[u8], y: Way) -> Outcome
+// The answer of a Rewind, where y is what is known of the roll.
+fn rewound(r: Record, keep: u64, h: &[u8], y: Way) -> Outcome
     ensures { λ o. ⌜ ((roll : List ℕ) → y ≡ wayOf (sizeOf (r .w)) roll → o ≡ rewindRollCall r keep (now (h .entry)) roll) ⌝ }
 {
-    // Rewind gives 3 and 17 itself, and they come first.
-    if record::is_sound(r) & !record::is_begun(r) & !roll::is_roll_of(y, r) {
-        return record::refused(15, r);
+    let a = roll::turn(r, record::is_begun(r), y);
+    if a != 0 {
+        return record::refused(a, r);
     }
-    rewind::rewind(r, keep, h)
+    rewind::in_turn(r, keep, h)
+}
+
+// The answer of an end.
+fn ended(r: Record, keep: u64, y: Way) -> Outcome
+    ensures { λ o. ⌜ ((roll : List ℕ) → y ≡ wayOf (sizeOf (r .w)) roll → o ≡ endRollCall r keep roll) ⌝ }
+{
+    let a = roll::turn(r, !record::is_begun(r), y);
+    if a != 0 {
+        return record::refused(a, r);
+    }
+    split_rewind::in_turn(r, keep)
 }

@@ -19,6 +19,7 @@ use Rattle.lsh.proofs.Bytes.{Octets}
 use Rattle.lsh.proofs.Tabulate.{length-tabulate, at-tabulate, tabulate-ext}
 use Rattle.elements.proofs.Repeats.{one-take, one-snoc, repeats-snoc}
 use Rattle.roll.specs.declared.Way.{Way}
+use Rattle.checkpoints.specs.Due.{Checkpoint}
 use Rattle.checkpoints.specs.Slots.{mostSlots, slotCount, isRollLength}
 use Rattle.checkpoints.specs.Members.{member, repeats, allUpTo}
 use Rattle.checkpoints.specs.Roll.{nextIndex, links, isRoll}
@@ -225,18 +226,18 @@ module _ (z : WordSize) (ok : Octets z) (s : List ℕ) (is : isRoll z s ≡ true
   unfolding wayOf
   way-is = rw is
 
-  way-laid : (t : List ℕ) → Chain z t → length (links z s) < slotCount z (length s)
+  way-laid : (c : Checkpoint) → Chain z (c .chain) → length (links z s) < slotCount z (length s)
       → _≡_ {A = Way}
       (record { form = true; slots = slotCount z (length s); count = length (links z s) + 1; last = taken z s; marks = set (marked (links z s)) (taken z s) 1 })
-      (wayOf z (laid z t s))
+      (wayOf z (laid z c s))
   unfolding wayOf leadTo
-  way-laid t chain room =
+  way-laid c chain room =
       let i : ℕ = taken z s in
       let l : List ℕ = links z s in
-      let e : links z (laid z t s) ≡ l ++ i ∷ [] = laid-links z ok s is room t chain in
+      let e : links z (laid z c s) ≡ l ++ i ∷ [] = laid-links z ok s is room c chain in
       let more : length (l ++ i ∷ []) ≡ length l + 1 = length-append l (i ∷ []) in
-      let le : i ≤ mostSlots = omega (arith, taken-within z ok s is room t chain .1, sized z s (linked z s is .right) .most) in
-      rw (laid-roll z ok s is room t chain, e, laid-size z ok s is room t chain, more)
+      let le : i ≤ mostSlots = omega (arith, taken-within z ok s is room c chain .1, sized z s (linked z s is .right) .most) in
+      rw (laid-roll z ok s is room c chain, e, laid-size z ok s is room c chain, more)
       (λ d. record {
         form = true;
         slots = slotCount z (length s);
@@ -245,11 +246,11 @@ module _ (z : WordSize) (ok : Octets z) (s : List ℕ) (is : isRoll z s ≡ true
         marks = marked-more l i le d;
       })
 
-  pub way-more : (t : List ℕ) → Chain z t → length (links z s) < slotCount z (length s) → {y : Way} {i : ℕ} → y ≡ known → i ≡ taken z s
-      → _≡_ {A = Way} (record { form = y .form; slots = y .slots; count = y .count + 1; last = i; marks = set (y .marks) i 1 }) (wayOf z (laid z t s))
-  way-more t chain room {y} {i} is chosen =
+  pub way-more : (c : Checkpoint) → Chain z (c .chain) → length (links z s) < slotCount z (length s) → {y : Way} {i : ℕ} → y ≡ known → i ≡ taken z s
+      → _≡_ {A = Way} (record { form = y .form; slots = y .slots; count = y .count + 1; last = i; marks = set (y .marks) i 1 }) (wayOf z (laid z c s))
+  way-more c chain room {y} {i} is chosen =
       ap₂ (λ (x : Way) (j : ℕ). record { form = x .form; slots = x .slots; count = x .count + 1; last = j; marks = set (x .marks) j 1 }) is chosen
-      ∙ way-laid t chain room
+      ∙ way-laid c chain room
 
 -- what is known of any buffer: whether it is a roll, and how many links a roll has
 module _ (z : WordSize) (s : List ℕ) {y : Way} (known : y ≡ wayOf z s) where

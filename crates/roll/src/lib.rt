@@ -1,14 +1,15 @@
 // A roll of checkpoints in a lent buffer: its slots are walked from the head, a checkpoint is laid behind the last, and links are taken off.
 ghost use mathlib.Core.Path.{_≡_};
-ghost use mathlib.Core.Bool.{true};
+ghost use mathlib.Core.Bool.{true, false};
 ghost use mathlib.Core.List.{List};
 ghost use Prim.Native.Nat.{ℕ, _+_, _<_, _≤_};
 ghost use lib.ListN.{length, set, replicate};
 ghost use Rattle.lsh.specs.WordSize.{isWordSize, sizeOf};
 ghost use Rattle.lsh.specs.Bytes.{wordAt};
 ghost use Rattle.lsh.specs.Block.{Chain};
+ghost use Rattle.record.specs.Record.{sound};
 ghost use Rattle.checkpoints.specs.Slots.{indexBytes, mostSlots, slotBytes, slotCount, isRollLength, indexPlace};
-ghost use Rattle.checkpoints.specs.Roll.{nextIndex, links, isRoll, checkpoints, isRollOf};
+ghost use Rattle.checkpoints.specs.Roll.{nextIndex, links, isRoll, checkpoints, isRollOf, rollAnswer};
 ghost use Rattle.checkpoints.specs.FreeSlot.{freeSlot};
 ghost use Rattle.checkpoints.specs.Checkpoints.{withIndex, withSlot, leadTo, laid, unlinked};
 ghost use Rattle.roll.specs.Way.{marked, notARoll, wayOf};
@@ -56,6 +57,20 @@ pub fn is_roll_of(y: Way, r: Record) -> bool
     y.count as u64 == checkpoints(r.w, r.total)
 }
 
+// The answer of the tests that a call with a roll makes first, where out says whether it is out of turn.
+pub fn turn(r: Record, out: bool, y: Way) -> u32
+    ensures { λ a. ⌜ (a ≡ 0 → (sound r ≡ true) × (out ≡ false)) × ((s : List ℕ) → y ≡ wayOf (sizeOf (r .w)) s → a ≡ rollAnswer r out s) ⌝ }
+{
+    let a = record::turn(r, out);
+    if a != 0 {
+        return a;
+    }
+    if !is_roll_of(y, r) {
+        return 15;
+    }
+    0
+}
+
 // How many checkpoints an order of this total has.
 pub fn checkpoints(w: u64, total: u64) -> u64
     ensures { λ k. ⌜ k ≡ checkpoints w total ⌝ }
@@ -63,10 +78,10 @@ pub fn checkpoints(w: u64, total: u64) -> u64
     total / runs::block_bytes(w) as u64 / SPACING
 }
 
-// Lays a checkpoint with the chain t in a slot that is not linked, behind the last link. Returns what is known of the roll then.
+// Lays a checkpoint with the chain t in a slot that is not linked, behind the last link; its number is not written. Returns what is known of the roll then.
 pub fn lay(w: u64, y: Way, roll: &mut [u8], t: [u64; 16]) -> Way
     requires { ⌜ (isWordSize w ≡ true) × Chain (sizeOf w) t × (isRoll (sizeOf w) (now roll) ≡ true) × (y ≡ wayOf (sizeOf w) (now roll)) × (y .count < y .slots) ⌝ }
-    ensures { λ x. ⌜ (now (roll .exit) ≡ laid (sizeOf w) t (now (roll .entry))) × (x ≡ wayOf (sizeOf w) (now (roll .exit))) ⌝ }
+    ensures { λ x. ⌜ ((k : ℕ) → now (roll .exit) ≡ laid (sizeOf w) (record { number = k; chain = t }) (now (roll .entry))) × (x ≡ wayOf (sizeOf w) (now (roll .exit))) ⌝ }
 {
     let slots = y.slots;
     let last = y.last;

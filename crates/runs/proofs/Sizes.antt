@@ -8,6 +8,7 @@ use native.Mathlib.Nat.{div-eq-of-lt}
 use lib.ListN.{length}
 use borrow.Author.Tests.{ne-eqb}
 use Rattle.lsh.specs.WordSize.{WordSize, lsh256, lsh512, sizeOf, blockBytes}
+use Rattle.lsh.specs.Bytes.{wordsOf, bytesOf}
 use Rattle.lsh.specs.Padding.{blocksOf}
 use Rattle.lsh.proofs.Figures.{block-some}
 use Rattle.lsh.proofs.Padding.{blocks-short}
@@ -38,3 +39,10 @@ module _ (run : Running) (w : ℕ) (s : List ℕ) where
   pub run-none : (t : List ℕ) → run (sizeOf w) [] t ≡ t → length s < blockBytes (sizeOf w)
       → (t ≡ run (sizeOf w) (blocksOf (sizeOf w) s) t) × (0 ≡ length s / blockBytes (sizeOf w))
   run-none t none less = (rw (blocks-short (sizeOf w) (block-some w) s less, none), sym (div-eq-of-lt less))
+
+  -- the same on the bytes of a chain
+  pub bytes-by : (c : List ℕ) {z : WordSize} {t r d : List ℕ} → sizeOf w ≡ z → t ≡ wordsOf z 16 c → r ≡ run z (blocksOf z s) t → d ≡ bytesOf z r
+      → d ≡ bytesOf (sizeOf w) (run (sizeOf w) (blocksOf (sizeOf w) s) (wordsOf (sizeOf w) 16 c))
+  bytes-by c {z} {t} {r} {d} is words gives stored =
+      subst (λ (v : WordSize). d ≡ bytesOf v (run v (blocksOf v s) (wordsOf v 16 c))) (sym is)
+      (stored ∙ ap (bytesOf z) (gives ∙ ap (run z (blocksOf z s)) words))

@@ -6,7 +6,7 @@ ghost use Prim.Native.Nat.{ℕ, _*_, _/_, _^_, _<_, _≤_};
 ghost use lib.ListN.{length, replicate};
 ghost use Rattle.lsh.specs.Tabulate.{at};
 ghost use Rattle.lsh.specs.WordSize.{isWordSize, sizeOf, chainBytes, blockBytes};
-ghost use Rattle.lsh.specs.Bytes.{bytesOf};
+ghost use Rattle.lsh.specs.Bytes.{wordsOf, bytesOf};
 ghost use Rattle.lsh.specs.Block.{Chain, forwards, backwards};
 ghost use Rattle.lsh.specs.Opening.{opening};
 ghost use Rattle.lsh.specs.Padding.{blocksOf};
@@ -187,14 +187,14 @@ pub fn forward(w: u64, t: [u64; 16], s: &[u8]) -> Run
         return Run { chain: t, count: 0 };
     }
     if w == 32 {
-        let small = lsh256::forward(narrow(t), s);
+        let small = lsh256::forward(Lsh256::STEPS, narrow(t), s);
         let words = small.chain;
         return Run {
             chain: widen(words),
             count: small.count,
         };
     }
-    let run = lsh512::forward(t, s);
+    let run = lsh512::forward(Lsh512::STEPS, t, s);
     let chain = run.chain;
     Run {
         chain: chain,
@@ -211,19 +211,54 @@ pub fn backward(w: u64, t: [u64; 16], s: &[u8]) -> Run
         return Run { chain: t, count: 0 };
     }
     if w == 32 {
-        let small = lsh256::backward(narrow(t), s);
+        let small = lsh256::backward(Lsh256::STEPS, narrow(t), s);
         let words = small.chain;
         return Run {
             chain: widen(words),
             count: small.count,
         };
     }
-    let run = lsh512::backward(t, s);
+    let run = lsh512::backward(Lsh512::STEPS, t, s);
     let chain = run.chain;
     Run {
         chain: chain,
         count: run.count,
     }
+}
+
+// The same on the bytes of a chain. Its words stay at the width of w: a block alone would take some hundredths longer if they were widened and narrowed.
+pub fn forward_bytes(w: u64, chain: &mut [u8], s: &[u8])
+    requires { ⌜ (isWordSize w ≡ true) × (length (now chain) ≡ chainBytes (sizeOf w)) ⌝ }
+    ensures { λ _. ⌜ now (chain .exit) ≡ bytesOf (sizeOf w) (forwards (sizeOf w) (blocksOf (sizeOf w) (now (s .entry))) (wordsOf (sizeOf w) 16 (now (chain .entry)))) ⌝ }
+{
+    if w == 32 {
+        let t = lsh256::load_chain(chain);
+        let run = lsh256::forward(Lsh256::STEPS, t, s);
+        let ahead = run.chain;
+        lsh256::store_chain(chain, ahead);
+        return;
+    }
+    let t = lsh512::load_chain(chain);
+    let run = lsh512::forward(Lsh512::STEPS, t, s);
+    let ahead = run.chain;
+    lsh512::store_chain(chain, ahead);
+}
+
+pub fn backward_bytes(w: u64, chain: &mut [u8], s: &[u8])
+    requires { ⌜ (isWordSize w ≡ true) × (length (now chain) ≡ chainBytes (sizeOf w)) ⌝ }
+    ensures { λ _. ⌜ now (chain .exit) ≡ bytesOf (sizeOf w) (backwards (sizeOf w) (blocksOf (sizeOf w) (now (s .entry))) (wordsOf (sizeOf w) 16 (now (chain .entry)))) ⌝ }
+{
+    if w == 32 {
+        let t = lsh256::load_chain(chain);
+        let run = lsh256::backward(Lsh256::STEPS, t, s);
+        let before = run.chain;
+        lsh256::store_chain(chain, before);
+        return;
+    }
+    let t = lsh512::load_chain(chain);
+    let run = lsh512::backward(Lsh512::STEPS, t, s);
+    let before = run.chain;
+    lsh512::store_chain(chain, before);
 }
 
 // The opening chain. Those of the published functions are stored, which saves a run where the message is short.

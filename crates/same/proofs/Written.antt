@@ -1,4 +1,4 @@
--- Every receipt that Whole or Close writes is well formed, and its four parts are read back from it.
+-- A receipt that stands at the front of an output is well formed, and its four parts are read back from it.
 -- Assumes nothing.
 use mathlib.Core.Path.{_≡_, refl, sym, ap, _∙_, subst}
 use mathlib.Core.Bool.{Bool, true, false}
@@ -13,7 +13,7 @@ use Rattle.lsh.specs.Tabulate.{at, tabulate}
 use Rattle.lsh.specs.WordSize.{isWordSize, sizeOf}
 use Rattle.lsh.specs.Bytes.{wordAt, byteAt}
 use Rattle.lsh.specs.Bits.{bitsOf, numberOf, bytesOfBits}
-use Rattle.lsh.specs.Hash.{finalBytes, digest, hash, lsh}
+use Rattle.lsh.specs.Hash.{finalBytes, digest}
 use Rattle.lsh.proofs.Tabulate.{length-tabulate, at-tabulate}
 use Rattle.lsh.proofs.Figures.{bits-are}
 use Rattle.lsh.proofs.Bytes.{octets, word-bytes}
@@ -23,17 +23,10 @@ use Rattle.runs.specs.Limits.{longestDigest, isDigestLength, limit}
 use Rattle.runs.proofs.Limits.{digest-most, digest-longest}
 use Rattle.runs.proofs.Zeros.{filled-length}
 use Rattle.finalization.specs.Receipt.{receiptBytes, digestPlace, lengthPlace, receipt}
-use Rattle.finalization.specs.Ending.{messageBits, mostBits}
+use Rattle.finalization.specs.Ending.{mostBits}
 use Rattle.finalization.proofs.FinalBytes.{length-final, at-append-zeros}
-use Rattle.finalization.proofs.Ending.{message-length}
-use Rattle.record.specs.declared.Record.{Record}
 use Rattle.record.specs.Lists.{allZero}
-use Rattle.record.proofs.Sound.{sounds}
 use Rattle.record.proofs.Strings.{filled-zero}
-use Rattle.whole.specs.Whole.{wholeAnswer, wholeOutput}
-use Rattle.whole.proofs.Answers as whole-answers
-use Rattle.close.specs.Close.{closeAnswer, closedDigest, closeOutput}
-use Rattle.close.proofs.Answers as close-answers
 use Rattle.same.specs.Parts.{wordSizeOf, digestLengthOf, digestOf, bitLengthOf}
 use Rattle.same.specs.WellFormed.{unusedZero, zeroAfter, wellFormed}
 use Rattle.same.specs.Same.{isReceiptLong}
@@ -149,34 +142,9 @@ module _ (w n : ℕ) (d : List Bool) (bits : ℕ) (word : isWordSize w ≡ true)
         bitLength = bits-are-read;
       }
 
-digest-long : (w n : ℕ) (t : List ℕ) → isWordSize w ≡ true → isDigestLength w n ≡ true → length (digest (sizeOf w) n t) ≡ n
+pub digest-long : (w n : ℕ) (t : List ℕ) → isWordSize w ≡ true → isDigestLength w n ≡ true → length (digest (sizeOf w) n t) ≡ n
 unfolding digest
 digest-long w n t word digestLength =
     let h : List ℕ = finalBytes (sizeOf w) t in
     length-take-le n (bitsOf h)
     (omega (arith, digest-most w n digestLength, length-bits h, length-final (sizeOf w) (octets w) t, bits-are w word))
-
--- what an accepted Whole writes, and what an accepted Close writes
-
-pub whole-written : (w n : ℕ) (m : List ℕ) (last e : ℕ) (output : List ℕ) → wholeAnswer w n (length m) last e (length output) ≡ 0
-    → Written w n (lsh w n (messageBits m last e)) (length (messageBits m last e)) (take receiptBytes (wholeOutput w n m last e output))
-unfolding wholeOutput lsh hash mostBits
-whole-written w n m last e output is =
-    let a = whole-answers.accepted w n (length m) last e (length output) is in
-    at-front-of w n (lsh w n (messageBits m last e)) (length (messageBits m last e)) (a .wordSize) (a .digestLength)
-    (digest-long w n _ (a .wordSize) (a .digestLength))
-    (omega (arith, message-length m last e (a .end .extra), a .within, a .end .extra))
-    (drop receiptBytes output)
-    (rw (eq-eqb (wholeAnswer w n (length m) last e (length output)) 0 is))
-
-pub close-written : (r : Record) (last e : ℕ) (output : List ℕ) → closeAnswer r last e (length output) ≡ 0
-    → Written (r .w) (r .n) (closedDigest r last e) (8 * r .total + e) (take receiptBytes (closeOutput r last e output))
-unfolding closeOutput closedDigest mostBits
-close-written r last e output is =
-    let a = close-answers.accepted r last e (length output) is in
-    let s = sounds r (a .taken) in
-    at-front-of (r .w) (r .n) (closedDigest r last e) (8 * r .total + e) (s .word) (s .digestLength)
-    (digest-long (r .w) (r .n) _ (s .word) (s .digestLength))
-    (omega (arith, s .few, a .end .extra))
-    (drop receiptBytes output)
-    (rw (eq-eqb (closeAnswer r last e (length output)) 0 is))

@@ -1,7 +1,7 @@
 -- A begin and the hand-backs after it that are accepted: the record is that of the order before them but for how far the rewind is, Abandon gives it
 -- back, and the end is that of one Rewind over their bytes, joined as in the order.
 -- Assumes nothing.
-use mathlib.Core.Path.{_≡_, refl, sym, ap, _∙_, subst}
+use mathlib.Core.Path.{_≡_, refl, sym, ap, ap₂, _∙_, subst}
 use mathlib.Core.Bool.{Bool, true, false, not, cond}
 use mathlib.Core.List.{List, [], _∷_, _++_}
 use Prim.Native.Nat.{ℕ, _+_, _-_, _*_, _/_, _%_, _≤_, _<_, zero-le}
@@ -21,6 +21,7 @@ use Rattle.lsh.proofs.Splitting.{blocks-split}
 use Rattle.runs.specs.Limits.{longestBlock}
 use Rattle.equal.specs.Equal.{equal}
 use Rattle.equal.proofs.Equal.{equal-self, equal-true}
+use Rattle.answers.proofs.Tests.{test, tested, passed}
 use Rattle.record.specs.declared.Record.{Record}
 use Rattle.record.specs.declared.Split.{Split}
 use Rattle.record.specs.declared.Outcome.{Outcome}
@@ -29,36 +30,16 @@ use Rattle.record.specs.Record.{heldOf, heldLength, heldBytes, sound, isBegun, 
 use Rattle.record.specs.Arrays.{Arrays}
 use Rattle.record.proofs.Sound.{Sound, sounds, chain-is, chain-below}
 use Rattle.record.proofs.Begun.{OneBegun, one-begun-sound, with-sound, none-is}
+use Rattle.record.proofs.InTurn.{in-turn, accepted-in-turn}
 use Rattle.record.proofs.Strings.{filled-zero}
-use Rattle.rewind.specs.Rewind.{keepsTooMuch, heldDiffers, reached, openingDiffers, rewound, woundBack, rewindCall}
+use Rattle.rewind.specs.Rewind.{keepsTooMuch, heldDiffers, reached, Cut, openingDiffers, rewound, cutCall, rewindInTurn, rewindCall}
 use Rattle.rewind.proofs.Lengths.{OnBlock, starts-on, keeps-few}
 use Rattle.split_rewind.specs.Begin.{begun, beginCall}
 use Rattle.split_rewind.specs.HandBack.{noBlock, handedBack, handBackCall}
-use Rattle.split_rewind.specs.End.{handed, lastBytes, endCall}
+use Rattle.split_rewind.specs.End.{handed, lastBytes, endCut, endInTurn, endCall}
 use Rattle.split_rewind.specs.Abandon.{abandonCall}
 use Rattle.split_rewind.specs.OneRewind.{afterBlocks, BlocksAccepted, afterSteps, StepsAccepted, answeredOn, joined}
 use Rattle.split_rewind.proofs.Lengths.{a-block, blocks-on}
-
--- an accepted step passed every test
-begin-through : (a b c d : Bool) (r : Record) (s : Split)
-    → cond (not a) (refused 3 r) (cond b (refused 17 r) (cond (not c) (refused 6 r) (cond d (refused 8 r) (stepped r s)))) .number ≡ 0
-    → (a ≡ true) × (b ≡ false) × (c ≡ true) × (d ≡ false)
-    × (cond (not a) (refused 3 r) (cond b (refused 17 r) (cond (not c) (refused 6 r) (cond d (refused 8 r) (stepped r s)))) .next ≡ withSplit r s)
-unfolding refused stepped
-begin-through true false true false r s e = (refl, refl, refl, refl, refl)
-begin-through true false true true r s e = absurd (omega arith)
-begin-through true false false d r s e = absurd (omega arith)
-begin-through true true c d r s e = absurd (omega arith)
-begin-through false b c d r s e = absurd (omega arith)
-
-block-through : (a b c : Bool) (r : Record) (s : Split)
-    → cond (not a) (refused 3 r) (cond (not b) (refused 17 r) (cond c (refused 6 r) (stepped r s))) .number ≡ 0
-    → (c ≡ false) × (cond (not a) (refused 3 r) (cond (not b) (refused 17 r) (cond c (refused 6 r) (stepped r s))) .next ≡ withSplit r s)
-unfolding refused stepped
-block-through true true false r s e = (refl, refl)
-block-through true true true r s e = absurd (omega arith)
-block-through true false c r s e = absurd (omega arith)
-block-through false b c r s e = absurd (omega arith)
 
 module _ (r : Record) (arrays : Arrays r) (ok : sound r ≡ true) (idle : isBegun r ≡ false) where
   abbrev Z : WordSize
@@ -149,12 +130,13 @@ module _ (r : Record) (arrays : Arrays r) (ok : sound r ≡ true) (idle : isBegu
   -- one hand-back more
   accepted-block : (h : List ℕ) (s : Split) (b : List ℕ) → Handed h s → handBackCall (withSplit r s) b .number ≡ 0
       → After (b ++ h) (handBackCall (withSplit r s) b .next)
-  unfolding handBackCall withSplit
+  unfolding handBackCall withSplit refused stepped
   accepted-block h s b had e =
       let x : Record = withSplit r s in
-      let through = block-through (sound x) (isBegun x) (noBlock B (r .total) (s .blocks) (length b)) x (handedBack x b) e in
-      let block : (length b ≡ B) × (s .blocks < r .total / B) = a-block B (r .total) (s .blocks) (length b) (through .0) in
-      record { split = handedBack x b; is = through .1; handed = handed-more h s b had (block .0) (block .1) }
+      let turn = accepted-in-turn x (cond (noBlock B (r .total) (s .blocks) (length b)) (refused 6 x) (stepped x (handedBack x b))) e .2 in
+      let p = passed (λ (o : Outcome). o .number) (test (noBlock B (r .total) (s .blocks) (length b)) (refused 6 x) ∷ []) (stepped x (handedBack x b)) refl (ap (λ (o : Outcome). o .number) (sym turn) ∙ e) in
+      let block : (length b ≡ B) × (s .blocks < r .total / B) = a-block B (r .total) (s .blocks) (length b) (p .0 0) in
+      record { split = handedBack x b; is = ap (λ (o : Outcome). o .next) (turn ∙ p .1); handed = handed-more h s b had (block .0) (block .1) }
 
   block-after : (h : List ℕ) (x : Record) (b : List ℕ) → After h x → handBackCall x b .number ≡ 0 → After (b ++ h) (handBackCall x b .next)
   block-after h x b had = subst (λ (y : Record). handBackCall y b .number ≡ 0 → After (b ++ h) (handBackCall y b .next)) (sym (had .is)) (accepted-block h (had .split) b (had .handed))
@@ -174,50 +156,50 @@ module _ (r : Record) (arrays : Arrays r) (ok : sound r ≡ true) (idle : isBegu
     abbrev size : ℕ
     size = length h
 
-    abbrev accepts : Record → List ℕ → Outcome
-    accepts q t = record { number = 0; count = size / B; next = rewound q size keep c t }
+    abbrev cut : List ℕ → Cut
+    cut t = record { size = size; keep = keep; chain = c; bytes = t }
 
-    same-bytes : keep ≤ size → keep < B → accepts y (lastBytes y) ≡ accepts r h
+    same-bytes : keep ≤ size → keep < B → rewound y (cut (lastBytes y)) ≡ rewound r (cut h)
     unfolding rewound withSplit
     same-bytes le lt =
-        ap (λ (t : List ℕ). accepts-with t) (had .first keep le lt)
-      where
-        accepts-with : List ℕ → Outcome
-        accepts-with t =
-            record {
-              number = 0;
-              count = size / B;
-              next = record { w = r .w; n = r .n; total = r .total - size + keep; chain = c; held = heldOf t; split = notBegun };
-            }
+        ap (λ (t : List ℕ). record { w = r .w; n = r .n; total = r .total - size + keep; chain = c; held = heldOf t; split = notBegun }) (had .first keep le lt)
 
-    pub wound : keep ≤ size → keep < B → woundBack y size keep c (lastBytes y) ≡ answeredOn y (woundBack r size keep c h)
-    unfolding woundBack openingDiffers withSplit answeredOn refused
-    wound le lt = go (openingDiffers r size c) (same-bytes le lt)
+    pub same-cut : keep ≤ size → keep < B → cutCall y (cut (lastBytes y)) ≡ answeredOn y (cutCall r (cut h))
+    unfolding cutCall openingDiffers withSplit answeredOn refused
+    same-cut le lt = go (openingDiffers r (cut h)) (same-bytes le lt)
       where
-        go : (t : Bool) → accepts y (lastBytes y) ≡ accepts r h → cond t (refused 9 y) (accepts y (lastBytes y)) ≡ answeredOn y (cond t (refused 9 r) (accepts r h))
+        accepts : Record → Outcome
+        accepts q = record { number = 0; count = size / B; next = q }
+
+        go : (t : Bool) → rewound y (cut (lastBytes y)) ≡ rewound r (cut h)
+            → cond t (refused 9 y) (accepts (rewound y (cut (lastBytes y)))) ≡ answeredOn y (cond t (refused 9 r) (accepts (rewound r (cut h))))
         go true same = refl
-        go false same = same
+        go false same = ap accepts same
 
-    ended : cond (keepsTooMuch B keep size) (refused 7 y) (woundBack y size keep c (lastBytes y))
-        ≡ answeredOn y (cond (keepsTooMuch B keep size) (refused 7 r) (woundBack r size keep c h))
+    ended : cond (keepsTooMuch B keep size) (refused 7 y) (cutCall y (cut (lastBytes y)))
+        ≡ answeredOn y (cond (keepsTooMuch B keep size) (refused 7 r) (cutCall r (cut h)))
     unfolding answeredOn refused
     ended = go (keepsTooMuch B keep size) refl
       where
         go : (t : Bool) → keepsTooMuch B keep size ≡ t
-            → cond t (refused 7 y) (woundBack y size keep c (lastBytes y)) ≡ answeredOn y (cond t (refused 7 r) (woundBack r size keep c h))
+            → cond t (refused 7 y) (cutCall y (cut (lastBytes y))) ≡ answeredOn y (cond t (refused 7 r) (cutCall r (cut h)))
         go true e = refl
-        go false e = let few = keeps-few B keep size e in wound (few .0) (few .1)
+        go false e = let few = keeps-few B keep size e in same-cut (few .0) (few .1)
 
     -- the two calls
-    pub end-is : sound y ≡ true → isBegun y ≡ true → endCall y keep ≡ cond (keepsTooMuch B keep size) (refused 7 y) (woundBack y size keep c (lastBytes y))
-    unfolding endCall handed withSplit
-    end-is sound-y begun-y = rw (sound-y, begun-y, ← had .size, had .second)
+    pub end-cut-is : endCut y keep ≡ cut (lastBytes y)
+    unfolding endCut handed withSplit
+    end-cut-is = ap₂ (λ (k : ℕ) (t : List ℕ). record { size = k; keep = keep; chain = t; bytes = lastBytes y }) (sym (had .size)) (had .second)
 
-    rewind-is : rewindCall r keep h ≡ cond (keepsTooMuch B keep size) (refused 7 r) (woundBack r size keep c h)
-    unfolding rewindCall heldDiffers
+    end-is : endInTurn y keep ≡ cond (keepsTooMuch B keep size) (refused 7 y) (cutCall y (cut (lastBytes y)))
+    unfolding endInTurn endCut withSplit
+    end-is = ap (λ (q : Cut). cond (keepsTooMuch B keep (q .size)) (refused 7 y) (cutCall y q)) end-cut-is
+
+    rewind-is : rewindCall r keep h ≡ cond (keepsTooMuch B keep size) (refused 7 r) (cutCall r (cut h))
+    unfolding rewindCall rewindInTurn heldDiffers
     rewind-is =
         let on : OnBlock B (r .total) size = subst (OnBlock B (r .total)) (sym (had .size)) (blocks-on B (r .total) (s .blocks) (had .one .upTo)) in
-        rw (ok, idle, starts-on B (r .total) size on, had .held, equal-self (heldBytes r))
+        in-turn r ok _ idle ∙ rw (starts-on B (r .total) size on, had .held, equal-self (heldBytes r))
 
 -- a begin that is accepted is on a sound record with none begun, and brings the held bytes
 pub record Begins (r : Record) (h : List ℕ) : Type 0 where
@@ -228,10 +210,19 @@ pub record Begins (r : Record) (h : List ℕ) : Type 0 where
   pub next : beginCall r h .next ≡ withSplit r (begun r)
 
 begins : (r : Record) (h : List ℕ) → beginCall r h .number ≡ 0 → Begins r h
-unfolding beginCall
+unfolding beginCall refused stepped
 begins r h e =
-    let p = begin-through (sound r) (isBegun r) (eqb (length h) (heldLength (r .w) (r .total))) (heldDiffers r h) r (begun r) e in
-    record { ok = p .0; idle = p .1; size = eqb-true (length h) (heldLength (r .w) (r .total)) (p .2); same = p .3; next = p .4 }
+    let fill = heldLength (r .w) (r .total) in
+    let ts = test (not (eqb (length h) fill)) (refused 6 r) ∷ test (heldDiffers r h) (refused 8 r) ∷ [] in
+    let turn = accepted-in-turn r (tested ts (stepped r (begun r))) e in
+    let p = passed (λ (o : Outcome). o .number) ts (stepped r (begun r)) refl (ap (λ (o : Outcome). o .number) (sym (turn .2)) ∙ e) in
+    record {
+      ok = turn .0;
+      idle = turn .1;
+      size = eqb-true (length h) fill (not-false (eqb (length h) fill) (p .0 0));
+      same = p .0 1;
+      next = ap (λ (o : Outcome). o .next) (turn .2 ∙ p .1);
+    }
 
 module _ (r : Record) (arrays : Arrays r) (h : List ℕ) (bs : List (List ℕ)) (accepted : StepsAccepted r h bs) where
   abbrev x : Record
@@ -272,16 +263,18 @@ module _ (r : Record) (arrays : Arrays r) (h : List ℕ) (bs : List (List ℕ)) 
   -- abandoning restores it
   pub abandoned : _≡_ {A = Outcome} (abandonCall x) (record { number = 0; count = 0; next = r })
   unfolding abandonCall stepped
-  abandoned = rw (x-sound, x-begun) (ap (λ (y : Record). record { number = 0; count = 0; next = y }) as-before)
+  abandoned = in-turn x x-sound _ (rw x-begun) ∙ ap (λ (y : Record). record { number = 0; count = 0; next = y }) as-before
 
   -- the end is that of one Rewind
   pub one-rewind : (keep : ℕ) → endCall x keep ≡ answeredOn x (rewindCall r keep all)
+  unfolding endCall
   one-rewind keep =
       let b = begin-is in
       let had = after-is .handed in
       subst (λ (q : Record). sound q ≡ true → isBegun q ≡ true → endCall q keep ≡ answeredOn q (rewindCall r keep all)) (sym (after-is .is))
       (λ sound-q begun-q.
-      end-is r arrays (b .ok) (b .idle) all s had keep sound-q begun-q
+      in-turn (withSplit r s) sound-q _ (rw begun-q)
+      ∙ end-is r arrays (b .ok) (b .idle) all s had keep
       ∙ ended r arrays (b .ok) (b .idle) all s had keep
       ∙ ap (answeredOn (withSplit r s)) (sym (rewind-is r arrays (b .ok) (b .idle) all s had keep)))
       x-sound x-begun

@@ -8,18 +8,18 @@ use lib.ListN.{length}
 use Rattle.record.specs.declared.Record.{Record}
 use Rattle.record.specs.declared.Split.{Split}
 use Rattle.record.specs.declared.Outcome.{Outcome}
-use Rattle.record.specs.Record.{heldOf, heldLength, sound, isBegun, refused, stepped}
+use Rattle.record.specs.Record.{heldOf, heldLength, isBegun, refused, stepped}
+use Rattle.record.specs.Turn.{inTurn}
 use Rattle.rewind.specs.Rewind.{heldDiffers}
 
 -- one begun, and no block handed back: the second chain is the first
 unfoldable pub begun : Record → Split
 begun r = record { mark = 1; second = r .chain; back = heldOf []; blocks = 0 }
 
--- Begin: 3 if the record is not sound, then 17 if one is begun, 6 if the bytes are not as many as are held, 8 if they are not those, else 0
+-- Begin: out of turn while one is begun; 6 if the bytes are not as many as are held, 8 if they are not those, else 0
 unfoldable pub beginCall : Record → List ℕ → Outcome
 beginCall r h =
-    cond (not (sound r)) (refused 3 r)
-    (cond (isBegun r) (refused 17 r)
+    inTurn r (isBegun r)
     (cond (not (eqb (length h) (heldLength (r .w) (r .total)))) (refused 6 r)
     (cond (heldDiffers r h) (refused 8 r)
-    (stepped r (begun r)))))
+    (stepped r (begun r))))

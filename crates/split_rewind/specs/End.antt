@@ -8,8 +8,9 @@ use lib.ListN.{take}
 use Rattle.lsh.specs.WordSize.{sizeOf, blockBytes}
 use Rattle.record.specs.declared.Record.{Record}
 use Rattle.record.specs.declared.Outcome.{Outcome}
-use Rattle.record.specs.Record.{heldLength, heldBytes, sound, isBegun, refused}
-use Rattle.rewind.specs.Rewind.{keepsTooMuch, woundBack}
+use Rattle.record.specs.Record.{heldLength, heldBytes, isBegun, refused}
+use Rattle.record.specs.Turn.{inTurn}
+use Rattle.rewind.specs.Rewind.{keepsTooMuch, Cut, cutCall}
 
 -- how many bytes were handed back of an order of this total: so many blocks, and the held bytes
 abbrev pub handedLength : ℕ → ℕ → ℕ → ℕ
@@ -22,10 +23,16 @@ handed r = handedLength (r .w) (r .total) (r .split .blocks)
 unfoldable pub lastBytes : Record → List ℕ
 lastBytes r = cond (eqb (r .split .blocks) 0) (heldBytes r) (take (blockBytes (sizeOf (r .w))) (r .split .back))
 
--- End: 3 if the record is not sound, then 17 if none is begun, 7, 9, else 0
+-- what an end cuts off
+unfoldable pub endCut : Record → ℕ → Cut
+endCut r keep = record { size = handed r; keep = keep; chain = r .split .second; bytes = lastBytes r }
+
+-- an End in turn: 7, 9, else 0
+unfoldable pub endInTurn : Record → ℕ → Outcome
+endInTurn r keep =
+    cond (keepsTooMuch (blockBytes (sizeOf (r .w))) keep (handed r)) (refused 7 r)
+    (cutCall r (endCut r keep))
+
+-- End: out of turn while none is begun
 unfoldable pub endCall : Record → ℕ → Outcome
-endCall r keep =
-    cond (not (sound r)) (refused 3 r)
-    (cond (not (isBegun r)) (refused 17 r)
-    (cond (keepsTooMuch (blockBytes (sizeOf (r .w))) keep (handed r)) (refused 7 r)
-    (woundBack r (handed r) keep (r .split .second) (lastBytes r))))
+endCall r keep = inTurn r (not (isBegun r)) (endInTurn r keep)

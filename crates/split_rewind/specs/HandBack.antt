@@ -11,7 +11,8 @@ use Rattle.lsh.specs.Padding.{blocksOf}
 use Rattle.record.specs.declared.Record.{Record}
 use Rattle.record.specs.declared.Split.{Split}
 use Rattle.record.specs.declared.Outcome.{Outcome}
-use Rattle.record.specs.Record.{heldOf, sound, isBegun, refused, stepped}
+use Rattle.record.specs.Record.{heldOf, isBegun, refused, stepped}
+use Rattle.record.specs.Turn.{inTurn}
 
 -- 6, with blocks of b bytes: the size bytes handed back are not a block, or no whole block remains
 unfoldable pub noBlock : ℕ → ℕ → ℕ → ℕ → Bool
@@ -27,10 +28,9 @@ handedBack r block =
       blocks = r .split .blocks + 1;
     }
 
--- Hand-back: 3 if the record is not sound, then 17 if none is begun, 6, else 0
+-- Hand-back: out of turn while none is begun; 6, else 0
 unfoldable pub handBackCall : Record → List ℕ → Outcome
 handBackCall r block =
-    cond (not (sound r)) (refused 3 r)
-    (cond (not (isBegun r)) (refused 17 r)
+    inTurn r (not (isBegun r))
     (cond (noBlock (blockBytes (sizeOf (r .w))) (r .total) (r .split .blocks) (length block)) (refused 6 r)
-    (stepped r (handedBack r block))))
+    (stepped r (handedBack r block)))

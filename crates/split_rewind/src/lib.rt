@@ -5,10 +5,10 @@ ghost use mathlib.Core.Bool.{true, false};
 ghost use lib.ListN.{length};
 ghost use Rattle.lsh.specs.WordSize.{sizeOf, blockBytes};
 ghost use Rattle.record.specs.Record.{sound, isBegun};
-ghost use Rattle.rewind.specs.Rewind.{keepsTooMuch, woundBack};
+ghost use Rattle.rewind.specs.Rewind.{keepsTooMuch, cutCall};
 ghost use Rattle.split_rewind.specs.Begin.{beginCall};
 ghost use Rattle.split_rewind.specs.HandBack.{noBlock, handedBack, handBackCall};
-ghost use Rattle.split_rewind.specs.End.{handed, lastBytes, endCall};
+ghost use Rattle.split_rewind.specs.End.{handed, lastBytes, endInTurn, endCall};
 ghost use Rattle.split_rewind.specs.Abandon.{abandonCall};
 use record::Outcome;
 use record::Record;
@@ -18,11 +18,9 @@ use record::Split;
 pub fn begin(r: Record, bytes: &[u8]) -> Outcome
     ensures { λ o. ⌜ o ≡ beginCall r (now (bytes .entry)) ⌝ }
 {
-    if !record::is_sound(r) {
-        return record::refused(3, r);
-    }
-    if record::is_begun(r) {
-        return record::refused(17, r);
+    let a = record::turn(r, record::is_begun(r));
+    if a != 0 {
+        return record::refused(a, r);
     }
     if bytes.len() != record::held_length(r.w, r.total) {
         return record::refused(6, r);
@@ -45,11 +43,9 @@ pub fn begin(r: Record, bytes: &[u8]) -> Outcome
 pub fn hand_back(r: Record, block: &[u8]) -> Outcome
     ensures { λ o. ⌜ o ≡ handBackCall r (now (block .entry)) ⌝ }
 {
-    if !record::is_sound(r) {
-        return record::refused(3, r);
-    }
-    if !record::is_begun(r) {
-        return record::refused(17, r);
+    let a = record::turn(r, !record::is_begun(r));
+    if a != 0 {
+        return record::refused(a, r);
     }
     if no_block(r.w, r.total, r.split.blocks, block.len()) {
         return record::refused(6, r);
@@ -90,12 +86,18 @@ fn handed_back(r: Record, block: &[u8]) -> Split
 pub fn end(r: Record, keep: u64) -> Outcome
     ensures { λ o. ⌜ o ≡ endCall r keep ⌝ }
 {
-    if !record::is_sound(r) {
-        return record::refused(3, r);
+    let a = record::turn(r, !record::is_begun(r));
+    if a != 0 {
+        return record::refused(a, r);
     }
-    if !record::is_begun(r) {
-        return record::refused(17, r);
-    }
+    in_turn(r, keep)
+}
+
+// The answer where the call is in turn.
+pub fn in_turn(r: Record, keep: u64) -> Outcome
+    requires { ⌜ (sound r ≡ true) × (isBegun r ≡ true) ⌝ }
+    ensures { λ o. ⌜ o ≡ endInTurn r keep ⌝ }
+{
     let size = handed(r);
     if rewind::keeps_too_much(r.w, keep, size) {
         return record::refused(7, r);
@@ -114,7 +116,7 @@ fn handed(r: Record) -> u64
 // Where the lengths are right: the bytes that remain are those of the block handed back last, or of the held part if none was.
 fn remaining(r: Record, size: u64, keep: u64) -> Outcome
     requires { ⌜ (sound r ≡ true) × (isBegun r ≡ true) × (size ≡ handed r) × (keepsTooMuch (blockBytes (sizeOf (r .w))) keep size ≡ false) ⌝ }
-    ensures { λ o. ⌜ o ≡ woundBack r size keep (r .split .second) (lastBytes r) ⌝ }
+    ensures { λ o. ⌜ o ≡ cutCall r (record { size = size; keep = keep; chain = r .split .second; bytes = lastBytes r }) ⌝ }
 {
     let held = r.held;
     let s = r.split;
@@ -123,21 +125,19 @@ fn remaining(r: Record, size: u64, keep: u64) -> Outcome
     let blocks = s.blocks;
     if blocks == 0 {
         let at = record::held_length(r.w, r.total);
-        return rewind::wound_back(r, blocks, size, keep, second, &held[..at]);
+        return rewind::cut(r, blocks, size, keep, second, &held[..at]);
     }
     let b = runs::block_bytes(r.w);
-    rewind::wound_back(r, blocks, size, keep, second, &back[..b])
+    rewind::cut(r, blocks, size, keep, second, &back[..b])
 }
 
 // The record before the rewind began.
 pub fn abandon(r: Record) -> Outcome
     ensures { λ o. ⌜ o ≡ abandonCall r ⌝ }
 {
-    if !record::is_sound(r) {
-        return record::refused(3, r);
-    }
-    if !record::is_begun(r) {
-        return record::refused(17, r);
+    let a = record::turn(r, !record::is_begun(r));
+    if a != 0 {
+        return record::refused(a, r);
     }
     let none = record::not_begun();
     record::stepped(r, none)

@@ -1,20 +1,21 @@
--- What an answer says of the calls with a key, and the output after each answer.
+-- What an answer says of the calls with a key.
 -- Assumes nothing.
 use mathlib.Core.Path.{_≡_, refl, sym, ap, _∙_}
-use mathlib.Core.Bool.{Bool, true, false, not, cond, _||_, false≢true}
-use mathlib.Core.List.{List, _++_}
+use mathlib.Core.Bool.{Bool, true, false, not, _||_}
+use mathlib.Core.List.{[], _∷_}
 use Prim.Native.Nat.{ℕ, _+_, _-_, _%_, _≤_}
 use native.Mathlib.Omega.{arith}
-use borrow.Author.Tests.{eqb-true, eq-eqb, ne-eqb, lt-ltb, le-ltb, ltb-true, ltb-false}
-use lib.Dec.{eqb, ltb}
-use lib.ListN.{drop}
+use borrow.Author.Tests.{eqb-true, lt-ltb, le-ltb, ltb-true, ltb-false, not-false}
+use lib.Dec.{ltb}
 use Rattle.lsh.specs.WordSize.{isWordSize, sizeOf, blockBytes}
+use Rattle.answers.proofs.Tests.{test, passed}
+use Rattle.answers.proofs.First.{both-passed}
 use Rattle.runs.specs.Limits.{isDigestLength, limit}
+use Rattle.lsh.proofs.Tests.{or-false}
 use Rattle.runs.proofs.Limits.{block-most}
 use Rattle.record.specs.declared.Record.{Record}
 use Rattle.record.specs.Record.{sound}
 use Rattle.tag.specs.KeyAnswer.{isWholeBytes, tagBytes, keyAnswer, roomAnswer}
-use Rattle.tag.specs.WithTag.{withTag}
 use Rattle.tag.specs.Tag.{tagAnswer}
 use Rattle.tag.specs.Finish.{finishAnswer}
 
@@ -50,74 +51,33 @@ pub keyed : (w n keyLength len : ℕ) → keyAnswer w n keyLength len ≡ 0 → 
 unfolding keyAnswer
 keyed w n keyLength len is =
     let b : ℕ = blockBytes (sizeOf w) + len in
-    let passed = tests (isWordSize w) (isDigestLength w n) (isWholeBytes n) (ltb limit keyLength) (ltb limit b) is in
+    let p =
+    passed (λ (k : ℕ). k)
+    (test (not (isWordSize w)) 1 ∷ test (not (isDigestLength w n)) 2 ∷ test (not (isWholeBytes n)) 18 ∷ test (ltb limit keyLength || ltb limit b) 5 ∷ []) 0 refl is .0 in
+    let few = or-false (ltb limit keyLength) (ltb limit b) (p 3) in
     record {
-      wordSize = passed .0;
-      digestLength = passed .1;
-      bytewise = bytewise-is n (passed .2);
-      short = ltb-false limit keyLength (passed .3);
-      within = ltb-false limit b (passed .4);
+      wordSize = not-false (isWordSize w) (p 0);
+      digestLength = not-false (isDigestLength w n) (p 1);
+      bytewise = bytewise-is n (not-false (isWholeBytes n) (p 2));
+      short = ltb-false limit keyLength (few .0);
+      within = ltb-false limit b (few .1);
     }
-  where
-    tests : (a b c d e : Bool) → _≡_ {A = ℕ} (cond (not a) 1 (cond (not b) 2 (cond (not c) 18 (cond (d || e) 5 0)))) 0
-        → (a ≡ true) × (b ≡ true) × (c ≡ true) × (d ≡ false) × (e ≡ false)
-    tests true true true false false is = (refl, refl, refl, refl, refl)
-    tests true true true false true is = absurd (omega arith)
-    tests true true true true e is = absurd (omega arith)
-    tests true true false d e is = absurd (omega arith)
-    tests true false c d e is = absurd (omega arith)
-    tests false b c d e is = absurd (omega arith)
 
 roomy : (n size : ℕ) → roomAnswer n size ≡ 0 → tagBytes n ≤ size
 unfolding roomAnswer
-roomy n size is = ltb-false size (tagBytes n) (test (ltb size (tagBytes n)) is)
-  where
-    test : (b : Bool) → _≡_ {A = ℕ} (cond b 12 0) 0 → b ≡ false
-    test false is = refl
-    test true is = absurd (omega arith)
+roomy n size is = ltb-false size (tagBytes n) (passed (λ (k : ℕ). k) (test (ltb size (tagBytes n)) 12 ∷ []) 0 refl is .0 0)
 
 -- the tag of one message
-module _ (w n keyLength len size : ℕ) where
-  -- a first answer that refuses stands, and else the second does
-  pub refused-first : {a : ℕ} → (a ≡ 0 → ⊥) → a ≡ keyAnswer w n keyLength len → a ≡ tagAnswer w n keyLength len size
-  unfolding tagAnswer
-  refused-first other is = is ∙ sym (rw (ne-eqb (keyAnswer w n keyLength len) 0 (λ e. other (is ∙ e))))
-
-  pub passed-first : {a b : ℕ} → a ≡ 0 → a ≡ keyAnswer w n keyLength len → b ≡ roomAnswer n size → b ≡ tagAnswer w n keyLength len size
-  unfolding tagAnswer
-  passed-first none is room = room ∙ sym (rw (eq-eqb (keyAnswer w n keyLength len) 0 (sym is ∙ none)))
-
-  pub tag-accepted : tagAnswer w n keyLength len size ≡ 0 → Keyed w n keyLength len × (tagBytes n ≤ size)
-  unfolding tagAnswer
-  tag-accepted is =
-      let both = tests (keyAnswer w n keyLength len) (eqb (keyAnswer w n keyLength len) 0) refl is in
-      (keyed w n keyLength len (both .0), roomy n size (both .1))
-    where
-      tests : (a : ℕ) (b : Bool) → eqb a 0 ≡ b → cond b (roomAnswer n size) a ≡ 0 → (a ≡ 0) × (roomAnswer n size ≡ 0)
-      tests a true e is = (eqb-true a 0 e, is)
-      tests a false e is = absurd (false≢true (sym e ∙ eq-eqb a 0 is))
+pub tag-accepted : (w n keyLength len size : ℕ) → tagAnswer w n keyLength len size ≡ 0 → Keyed w n keyLength len × (tagBytes n ≤ size)
+unfolding tagAnswer
+tag-accepted w n keyLength len size is =
+    let both = both-passed (keyAnswer w n keyLength len) (roomAnswer n size) is in
+    (keyed w n keyLength len (both .0), roomy n size (both .1))
 
 -- the finish
-module _ (r : Record) (keyLength size : ℕ) where
-  pub finish-accepted : finishAnswer r keyLength size ≡ 0 → (sound r ≡ true) × (r .n % 8 ≡ 0) × (tagBytes (r .n) ≤ size)
-  unfolding finishAnswer
-  finish-accepted is =
-      let passed = tests (sound r) (isWholeBytes (r .n)) (ltb limit keyLength) (roomAnswer (r .n) size) is in
-      (passed .0, bytewise-is (r .n) (passed .1), roomy (r .n) size (passed .2))
-    where
-      tests : (a b c : Bool) (d : ℕ) → cond (not a) 3 (cond (not b) 18 (cond c 5 d)) ≡ 0 → (a ≡ true) × (b ≡ true) × (d ≡ 0)
-      tests true true false d is = (refl, refl, is)
-      tests true true true d is = absurd (omega arith)
-      tests true false c d is = absurd (omega arith)
-      tests false b c d is = absurd (omega arith)
-
--- the output after a refusal, and with a tag
-module _ (answer n : ℕ) (tag output : List ℕ) where
-  pub refused-output : {a : ℕ} → a ≡ answer → (a ≡ 0 → ⊥) → (a ≡ answer) × (output ≡ withTag answer n tag output)
-  unfolding withTag
-  refused-output is other = (is, rw (ne-eqb answer 0 (λ p. other (is ∙ p))))
-
-  pub written-output : {t d : List ℕ} → answer ≡ 0 → t ≡ tag → d ≡ t ++ drop (tagBytes n) output → (0 ≡ answer) × (d ≡ withTag answer n tag output)
-  unfolding withTag
-  written-output is same stored =
-      (sym is, stored ∙ ap (λ (t : List ℕ). t ++ drop (tagBytes n) output) same ∙ sym (rw (eq-eqb answer 0 is)))
+pub finish-accepted : (r : Record) (keyLength size : ℕ) → finishAnswer r keyLength size ≡ 0 → (sound r ≡ true) × (r .n % 8 ≡ 0) × (tagBytes (r .n) ≤ size)
+unfolding finishAnswer
+finish-accepted r keyLength size is =
+    let p =
+    passed (λ (k : ℕ). k) (test (not (sound r)) 3 ∷ test (not (isWholeBytes (r .n))) 18 ∷ test (ltb limit keyLength) 5 ∷ []) (roomAnswer (r .n) size) refl is in
+    (not-false (sound r) (p .0 0), bytewise-is (r .n) (not-false (isWholeBytes (r .n)) (p .0 1)), roomy (r .n) size (sym (p .1) ∙ is))

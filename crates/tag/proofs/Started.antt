@@ -1,19 +1,19 @@
 -- The record of a newly started tag: that of the key's inner block.
 -- Assumes nothing.
-use mathlib.Core.Path.{_≡_, refl, sym, ap, _∙_}
-use mathlib.Core.Bool.{Bool, true, false, cond}
+use mathlib.Core.Path.{_≡_, sym, ap, _∙_}
+use mathlib.Core.Bool.{true}
 use mathlib.Core.List.{List, [], _++_}
 use Prim.Native.Nat.{ℕ, _≤_, zero-le}
 use native.Mathlib.Nat.{zero-add, zero-div, div-self}
 use native.Mathlib.Omega.{arith}
-use borrow.Author.Tests.{eqb-true, eq-eqb}
-use lib.Dec.{eqb}
 use lib.ListN.{length, length-append}
 use Rattle.lsh.specs.WordSize.{isWordSize, sizeOf, blockBytes}
 use Rattle.lsh.proofs.Figures.{block-some}
 use Rattle.runs.specs.Limits.{isDigestLength, limit}
-use Rattle.record.specs.Record.{sound, zeros, recordOf, refused}
+use Rattle.record.specs.declared.Outcome.{Outcome}
+use Rattle.record.specs.Record.{sound, zeros, recordOf}
 use Rattle.record.specs.Open.{opened}
+use Rattle.record.proofs.InTurn.{answered-accepted}
 use Rattle.record.proofs.Strings.{record-sound, record-none}
 use Rattle.append.specs.Append.{appendAccepted}
 use Rattle.append.proofs.Joins.{record-piece}
@@ -27,20 +27,19 @@ pub opened-sound : (w n : ℕ) → isWordSize w ≡ true → isDigestLength w n 
 opened-sound w n word digest = ap sound (sym (record-none w n)) ∙ record-sound w n [] word digest zero-le
 
 module _ (w n : ℕ) (key : List ℕ) (accepted : startCall w n key .number ≡ 0) where
-  answer-is : keyAnswer w n (length key) 0 ≡ 0
-  unfolding startCall refused
-  answer-is = go (keyAnswer w n (length key) 0) (eqb (keyAnswer w n (length key) 0) 0) refl accepted
-    where
-      go : (a : ℕ) (b : Bool) → eqb a 0 ≡ b → cond b (appendAccepted (opened w n) (innerKey w n key)) (refused a zeros) .number ≡ 0 → a ≡ 0
-      go a true e is = eqb-true a 0 e
-      go a false e is = is
+  abbrev first : Outcome
+  first = appendAccepted (opened w n) (innerKey w n key)
+
+  call-is : (keyAnswer w n (length key) 0 ≡ 0) × (startCall w n key ≡ first)
+  unfolding startCall
+  call-is = answered-accepted (keyAnswer w n (length key) 0) zeros first accepted
 
   pub start-accepted : Keyed w n (length key) 0
-  start-accepted = keyed w n (length key) 0 answer-is
+  start-accepted = keyed w n (length key) 0 (call-is .0)
 
   pub started-record : startCall w n key .next ≡ recordOf w n (innerKey w n key)
-  unfolding startCall appendAccepted
-  started-record = rw (eq-eqb (keyAnswer w n (length key) 0) 0 answer-is) (record-piece w n (innerKey w n key))
+  unfolding appendAccepted
+  started-record = ap (λ (o : Outcome). o .next) (call-is .1) ∙ record-piece w n (innerKey w n key)
 
   pub started-length : length (innerKey w n key) ≡ blockBytes (sizeOf w)
   started-length = inner-length w n (start-accepted .wordSize) (start-accepted .digestLength) (start-accepted .bytewise) key
@@ -58,12 +57,7 @@ module _ (w n : ℕ) (key : List ℕ) (accepted : startCall w n key .number ≡ 
 
   -- one block is run
   pub started-count : startCall w n key .count ≡ 1
-  unfolding startCall appendAccepted opened
+  unfolding appendAccepted opened
   started-count =
-      rw (
-        eq-eqb (keyAnswer w n (length key) 0) 0 answer-is,
-        zero-add (length (innerKey w n key)),
-        started-length,
-        div-self (block-some w),
-        zero-div (blockBytes (sizeOf w)),
-      )
+      ap (λ (o : Outcome). o .count) (call-is .1)
+      ∙ rw (zero-add (length (innerKey w n key)), started-length, div-self (block-some w), zero-div (blockBytes (sizeOf w)))

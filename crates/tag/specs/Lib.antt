@@ -1,7 +1,5 @@
 pub mod KeyAnswer
-pub mod WithTag
 pub mod Tag
 pub mod Start
 pub mod Finish
 pub mod Check
-pub mod Pieces

@@ -1,28 +1,26 @@
--- The tape's chains at its checkpoints: those of a tape that grows and of one that is cut, and as Append works them out from the record.
+-- The tape's checkpoints: those of a tape that grows, as Append works their chains out from the record, and those of one that is cut.
 -- Assumes nothing.
-use mathlib.Core.Path.{_≡_, refl, sym, ap, ap₂, _∙_}
+use mathlib.Core.Path.{_≡_, sym, ap, ap₂, _∙_}
 use mathlib.Core.Bool.{true}
-use mathlib.Core.List.{List, [], _∷_, _++_}
-use Prim.Native.Nat.{ℕ, zero, suc, _+_, _-_, _*_, _/_, _≤_, _<_}
-use native.Mathlib.Nat.{mul-assoc, mul-comm, mul-le-mul-right, div-add-mod'}
-use native.Mathlib.Decide.{decLt}
+use mathlib.Core.List.{List, _++_, map-append}
+use Prim.Native.Nat.{ℕ, _+_, _-_, _*_, _/_, _≤_, _<_}
+use native.Mathlib.Nat.{mul-le-mul-right, div-add-mod'}
 use native.Mathlib.Omega.{arith}
-use lib.ListN.{length, take, drop, length-append, take-append-drop}
-use lib.Seq.{take-all, take-append-le, drop-append-le}
+use lib.ListN.{length, take, drop, length-append, length-take, take-append-drop}
+use lib.Seq.{drop-append-le}
 use Rattle.lsh.specs.WordSize.{WordSize, isWordSize, sizeOf, blockBytes}
-use Rattle.lsh.specs.Block.{Chain, forwards}
 use Rattle.lsh.specs.Opening.{opening}
-use Rattle.lsh.specs.Padding.{firstBlocks, blocksOf, restOf}
-use Rattle.lsh.proofs.Figures.{amounts}
-use Rattle.lsh.proofs.Blocks.{forwards-chain, forwards-append}
-use Rattle.lsh.proofs.Opening.{opening-chain}
-use Rattle.lsh.proofs.Padding.{firstBlocks-add, firstBlocks-front}
+use Rattle.lsh.specs.Padding.{restOf}
+use Rattle.lsh.specs.Chains.{chainAfter}
+use Rattle.lsh.proofs.Chains.{after-all, after-further, after-front}
 use Rattle.record.specs.Record.{recordOf}
 use Rattle.record.proofs.Strings.{held-record}
-use Rattle.checkpoints.specs.Roll.{spacing, checkpoints}
-use Rattle.checkpoints.proofs.Spacing.{step, fewer-blocks}
-use Rattle.append_roll.specs.AppendRoll.{checkpointChain}
-use Rattle.tape.specs.TapeRoll.{tapeChains}
+use Rattle.checkpoints.specs.Due.{Checkpoint, checkpointsAt, numbersOf, dueNumbers, upTo}
+use Rattle.checkpoints.proofs.Spacing.{no-fewer-blocks}
+use Rattle.checkpoints.proofs.Due.{due-parts, due-each, due-up-to, same-at, numbers-at, take-at-numbers}
+use Rattle.append_roll.specs.AppendRoll.{due, chainAt}
+use Rattle.tape.specs.Tape.{wholeBlocks}
+use Rattle.tape.specs.TapeRoll.{tapeCheckpoints}
 
 module _ (w n : ℕ) where
   abbrev Z : WordSize
@@ -31,69 +29,58 @@ module _ (w n : ℕ) where
   abbrev B : ℕ
   B = blockBytes Z
 
-  abbrev O : List ℕ
-  O = opening Z n
+  -- the chain after k blocks of the tape
+  abbrev after : List ℕ → ℕ → List ℕ
+  after s k = chainAfter Z (opening Z n) s k
 
-  -- the k-th
-  abbrev chainAt : List ℕ → ℕ → List ℕ
-  chainAt s k = forwards Z (firstBlocks Z (spacing * k) s) O
+  -- so many blocks lie in the first bytes
+  pub blocks-in : (s : List ℕ) (k : ℕ) → k ≤ length s / B → k * B ≤ length s
+  blocks-in s k le = omega (arith, mul-le-mul-right B le, div-add-mod' (length s) B)
 
-  pub chains-length : (s : List ℕ) (m : ℕ) → length (tapeChains w n s m) ≡ m
-  chains-length s zero = refl
-  chains-length s (suc m) = length-append (tapeChains w n s m) (chainAt s (suc m) ∷ []) ∙ omega (arith, chains-length s m)
+  -- the checkpoints of the tape are those of a longer one up to its blocks
+  front-same : (s p : List ℕ) → tapeCheckpoints w n s ≡ checkpointsAt (after (s ++ p)) (dueNumbers 0 (wholeBlocks w s))
+  unfolding tapeCheckpoints wholeBlocks
+  front-same s p =
+      same-at (after s) (after (s ++ p)) (dueNumbers 0 (length s / B))
+      (due-each 0 (length s / B) _ (λ k from to. sym (after-front Z (opening Z n) s p k (blocks-in s k to))))
 
-  -- the first m of M
-  pub chains-take : (s : List ℕ) (m M : ℕ) → m ≤ M → take m (tapeChains w n s M) ≡ tapeChains w n s m
-  chains-take s zero M le = refl
-  chains-take s (suc m) zero le = absurd (omega arith)
-  chains-take s (suc m) (suc M) le = go (decLt m M) (chains-take s (suc m) M)
-    where
-      go : Dec (m < M) → (suc m ≤ M → take (suc m) (tapeChains w n s M) ≡ tapeChains w n s (suc m)) → take (suc m) (tapeChains w n s (suc M)) ≡ tapeChains w n s (suc m)
-      go (yes less) rest =
-          take-append-le (suc m) (tapeChains w n s M) (chainAt s (suc M) ∷ []) (omega (arith, chains-length s M)) ∙ rest (omega arith)
-      go (no more) rest =
-          let same : M ≡ m = omega arith in
-          take-all (suc m) (tapeChains w n s (suc M)) (omega (arith, chains-length s (suc M))) ∙ ap (λ (k : ℕ). tapeChains w n s (suc k)) same
-
-  -- a checkpoint's blocks lie in the first bytes
-  chain-front : (s p : List ℕ) (k : ℕ) → k * step w ≤ length s → chainAt (s ++ p) k ≡ chainAt s k
-  chain-front s p k le =
-      let e : spacing * k * B ≡ k * step w = ap (λ (a : ℕ). a * B) (mul-comm spacing k) ∙ mul-assoc k spacing B in
-      ap (λ (bs : List (List ℕ)). forwards Z bs O) (firstBlocks-front Z (spacing * k) s p (omega arith))
-
-  pub chains-front : (s p : List ℕ) (m : ℕ) → m * step w ≤ length s → tapeChains w n (s ++ p) m ≡ tapeChains w n s m
-  chains-front s p zero le = refl
-  chains-front s p (suc m) le =
-      let one : m ≤ suc m = omega arith in
-      let less : m * step w ≤ suc m * step w = mul-le-mul-right (step w) one in
-      ap₂ (λ (xs : List (List ℕ)) (x : List ℕ). xs ++ x ∷ []) (chains-front s p m (omega arith)) (chain-front s p (suc m) le)
-
-  -- a tape that is cut after its first x bytes
-  pub chains-cut : (s : List ℕ) (x m : ℕ) → m * step w ≤ length (take x s) → tapeChains w n s m ≡ tapeChains w n (take x s) m
-  chains-cut s x m le =
-      ap (λ (t : List ℕ). tapeChains w n t m) (sym (take-append-drop x s)) ∙ chains-front (take x s) (drop x s) m le
-
-  -- a piece appended to the record of the tape: the k-th chain, past those that the tape has
-  pub chain-appended : isWordSize w ≡ true → (s p : List ℕ) (k : ℕ) → checkpoints w (length s) < k
-      → checkpointChain (recordOf w n s) p k ≡ chainAt (s ++ p) k
-  unfolding checkpointChain recordOf blocksOf restOf
+  -- a piece appended to the record of the tape: the chain after k blocks, past those that the tape has
+  chain-appended : isWordSize w ≡ true → (s p : List ℕ) (k : ℕ) → length s / B < k → chainAt (recordOf w n s) p k ≡ after (s ++ p) k
+  unfolding chainAt recordOf restOf
   chain-appended word s p k past =
+      let O : List ℕ = opening Z n in
       let a : ℕ = length s / B in
-      let rest : ℕ = spacing * k - a in
       let behind : a * B ≤ length s = omega (arith, div-add-mod' (length s) B) in
-      let before : a ≤ spacing * k = blocks-before in
-      let sum : a + rest ≡ spacing * k = omega arith in
-      ap (λ (h : List ℕ). forwards Z (firstBlocks Z rest (h ++ p)) (forwards Z (firstBlocks Z a s) O)) (held-record w n s word)
-      ∙ sym (ap₂ (λ (t : List ℕ) (bs : List (List ℕ)). forwards Z (firstBlocks Z rest t) (forwards Z bs O))
-      (drop-append-le (a * B) s p behind) (firstBlocks-front Z a s p behind))
-      ∙ sym (forwards-append Z (firstBlocks Z a (s ++ p)) (firstBlocks Z rest (drop (a * B) (s ++ p))) O)
-      ∙ ap (λ (bs : List (List ℕ)). forwards Z bs O) (sym (firstBlocks-add Z a rest (s ++ p)) ∙ ap (λ (m : ℕ). firstBlocks Z m (s ++ p)) sum)
-    where
-      blocks-before : length s / B ≤ spacing * k
-      blocks-before = fewer-blocks w (length s) k past
+      let sum : a + (k - a) ≡ k = omega arith in
+      ap₂ (λ (t h : List ℕ). chainAfter Z t (h ++ p) (k - a)) (sym (after-front Z O s p a behind ∙ after-all Z O s)) (held-record w n s word)
+      ∙ ap (λ (h : List ℕ). chainAfter Z (after (s ++ p) a) h (k - a)) (sym (drop-append-le (a * B) s p behind))
+      ∙ after-further Z O (s ++ p) a (k - a)
+      ∙ ap (after (s ++ p)) sum
 
-  -- and any of them is a chain
-  pub appended-chain : (s p : List ℕ) (k : ℕ) → Chain Z (checkpointChain (recordOf w n s) p k)
-  unfolding checkpointChain recordOf
-  appended-chain s p k =
-      forwards-chain Z (amounts w) _ (forwards Z (blocksOf Z s) O) (forwards-chain Z (amounts w) (blocksOf Z s) O (opening-chain w n))
+  -- with those due for the piece they are the checkpoints of the longer tape
+  pub checkpoints-grow : isWordSize w ≡ true → (s p : List ℕ)
+      → tapeCheckpoints w n s ++ checkpointsAt (chainAt (recordOf w n s) p) (due (recordOf w n s) (length p)) ≡ tapeCheckpoints w n (s ++ p)
+  unfolding tapeCheckpoints wholeBlocks due recordOf
+  checkpoints-grow word s p =
+      let a : ℕ = length s / B in
+      let c : ℕ = (length s + length p) / B in
+      let f : ℕ → List ℕ = after (s ++ p) in
+      ap₂ (λ (xs ys : List Checkpoint). xs ++ ys) (front-same s p)
+      (same-at (chainAt (recordOf w n s) p) f (dueNumbers a c) (due-each a c _ (λ k from to. chain-appended word s p k from)))
+      ∙ sym (map-append (λ k. record { number = k; chain = f k }) (dueNumbers 0 a) (dueNumbers a c))
+      ∙ ap (checkpointsAt f) (sym (due-parts 0 c a (omega arith) (no-fewer-blocks w (length s) (length s + length p) (omega arith))))
+      ∙ ap (λ (m : ℕ). checkpointsAt f (dueNumbers 0 (m / B))) (sym (length-append s p))
+
+  -- those of a tape that is cut after its first x bytes
+  pub checkpoints-cut : (s : List ℕ) (x : ℕ)
+      → take (upTo (wholeBlocks w (take x s)) (numbersOf (tapeCheckpoints w n s))) (tapeCheckpoints w n s) ≡ tapeCheckpoints w n (take x s)
+  unfolding tapeCheckpoints wholeBlocks
+  checkpoints-cut s x =
+      let t : List ℕ = take x s in
+      let b : ℕ = length t / B in
+      let c : ℕ = length s / B in
+      ap (λ (l : List ℕ). take (upTo b l) (tapeCheckpoints w n s)) (numbers-at (after s) (dueNumbers 0 c))
+      ∙ take-at-numbers (after s) (upTo b (dueNumbers 0 c)) (dueNumbers 0 c)
+      ∙ ap (checkpointsAt (after s)) (due-up-to b c (no-fewer-blocks w (length t) (length s) (omega (arith, length-take x s))))
+      ∙ ap (λ (u : List ℕ). checkpointsAt (after u) (dueNumbers 0 b)) (sym (take-append-drop x s))
+      ∙ sym (front-same t (drop x s))

@@ -1,13 +1,19 @@
--- Demand 3 and what it is made of.
+-- Demand 3, and what is said of several calls.
 pub mod Simulation
-pub mod Steps
+pub mod Records
+pub mod OneCall
 pub mod Chains
-pub mod Orders
-pub mod OutOfTurn
+pub mod Rolls
 pub mod Unfinished
-pub mod Tapes
+pub mod Calls
 pub mod First
 pub mod Corrected
-pub mod Receipts
 pub mod TakenUp
+pub mod OneRewind
+pub mod Messages
+pub mod Written
+pub mod Finished
+pub mod Pieces
+pub mod AnyMark
+pub mod Receipts
 pub mod Tags

@@ -16,29 +16,30 @@ use Rattle.split_rewind.specs.OneRewind.{afterSteps, StepsAccepted}
 use Rattle.split_rewind.proofs.OneRewind.{begin-is, x-sound, as-before}
 use Rattle.whole.specs.Whole.{wholeAnswer, wholeOutput}
 use Rattle.close.specs.Close.{closeAnswer, closeOutput}
-use Rattle.close.proofs.Messages.{same-answer, same-output}
-use Rattle.close.proofs.Unfinished.{same-answer-unfinished, same-output-unfinished}
+use Rattle.tape.proofs.Messages.{close-answer, close-output}
+use Rattle.tape.proofs.AnyMark.{same-answer-unfinished, same-output-unfinished}
 use Rattle.tape.specs.Tape.{Lent, Tape}
-use Rattle.tape.specs.TapeSteps.{tapeSplit, tapeRecord}
+use Rattle.tape.specs.TapeRecord.{tapeSplit, tapeRecord}
 use Rattle.tape.specs.Calls.{Call}
 use Rattle.tape.specs.First.{First, firstCall, firstBytes}
 use Rattle.tape.specs.Orders.{orderAfter, tapeAfter, Premise}
 use Rattle.tape.proofs.First.{new-order}
-use Rattle.tape.proofs.Corrected.{KeptTape, tape-kept, both-sound, corrected-from}
+use Rattle.tape.proofs.Corrected.{tape-is-sound, both-sound, corrected-from}
+use Rattle.tape.proofs.OneCall.{SoundTape}
 
 -- Close on the record of a tape, and Whole on its bytes, answer and write the same
-tape-receipt : (w n : ℕ) (t : Tape) → isWordSize w ≡ true → isDigestLength w n ≡ true → KeptTape w t → (last e : ℕ) (output : List ℕ)
+tape-receipt : (w n : ℕ) (t : Tape) → isWordSize w ≡ true → isDigestLength w n ≡ true → SoundTape w t → (last e : ℕ) (output : List ℕ)
     → (closeAnswer (tapeRecord w n t) last e (length output) ≡ wholeAnswer w n (length (t .bytes)) last e (length output))
     × (closeOutput (tapeRecord w n t) last e output ≡ wholeOutput w n (t .bytes) last e output)
 unfolding tapeRecord
-tape-receipt w n t word digest kept last e output =
+tape-receipt w n t word digest good last e output =
     let m : List ℕ = t .bytes in
     let s : Split = cond (t .begun) (tapeSplit w n m (t .number)) notBegun in
-    let sounds : (sound (recordOf w n m) ≡ true) × (sound (withSplit (recordOf w n m) s) ≡ true) = both-sound w n t word digest kept in (
+    let sounds : (sound (recordOf w n m) ≡ true) × (sound (withSplit (recordOf w n m) s) ≡ true) = both-sound w n t word digest good in (
       same-answer-unfinished (recordOf w n m) s (sounds .0) (sounds .1) last e (length output)
-          ∙ same-answer w n m word last e digest (kept .bytes .few) (length output),
+          ∙ close-answer w n m word last e digest (good .bytes .few) (length output),
       same-output-unfinished (recordOf w n m) s (sounds .0) (sounds .1) last e output
-          ∙ same-output w n m word last e digest (kept .bytes .few) (kept .bytes .bytes) output,
+          ∙ close-output w n m word last e digest (good .bytes .few) (good .bytes .bytes) output,
     )
 
 -- the buyer's sentence: after the calls, finished or not
@@ -55,7 +56,7 @@ module _ (w n : ℕ) (first : First) (lent : Lent) (cs : List Call) (accepted : 
   corrected-receipt h last e output =
       let new = new-order w n first accepted in
       let remains = corrected-from w n first lent cs accepted h .asTape .remains in
-      let same = tape-receipt w n (tapeAfter w lent (firstBytes w n first) cs) (new .word) (new .digest) (tape-kept w n first lent cs accepted) last e output in (
+      let same = tape-receipt w n (tapeAfter w lent (firstBytes w n first) cs) (new .word) (new .digest) (tape-is-sound w n first lent cs accepted) last e output in (
         ap (λ (r : Record). closeAnswer r last e (length output)) remains ∙ same .0,
         ap (λ (r : Record). closeOutput r last e output) remains ∙ same .1,
       )

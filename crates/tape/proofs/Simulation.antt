@@ -23,10 +23,6 @@ pub choose : {S R A : Type 0} {Shows : R → S → Type 0} (f : A → Given R) (
 choose f true h k = h refl
 choose f false h k = k refl
 
--- of what is a function of the tape, as a record is: the same answer and that function of the tape that is left
-abbrev pub followed : {S R : Type 0} → (S → R) → Given S → Given R
-followed of t = record { answer = t .answer; next = of (t .next) }
-
 module _ {S C : Type 0} (tape : S → C → Given S) (Good : S → Type 0) (keeps : (s : S) (c : C) → Good s → Good (tape s c .next)) where
   pub good-after : (cs : List C) (s : S) → Good s → Good (after tape s cs)
   good-after [] s good = good

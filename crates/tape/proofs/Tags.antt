@@ -18,15 +18,16 @@ use Rattle.tag.specs.Start.{startCall}
 use Rattle.tag.specs.Finish.{finishAnswer, finishOutput}
 use Rattle.tag.proofs.Answers.{Keyed}
 use Rattle.tag.proofs.Started.{start-accepted, keyed-message}
-use Rattle.tag.proofs.Finished.{same-answer, same-output}
-use Rattle.tag.proofs.Unfinished.{finish-answer-unfinished, finish-output-unfinished}
+use Rattle.tape.proofs.Finished.{finish-answer, finish-output}
+use Rattle.tape.proofs.AnyMark.{finish-answer-unfinished, finish-output-unfinished}
 use Rattle.tape.specs.Tape.{Lent, Tape}
-use Rattle.tape.specs.TapeSteps.{tapeSplit, tapeRecord}
+use Rattle.tape.specs.TapeRecord.{tapeSplit, tapeRecord}
 use Rattle.tape.specs.Calls.{Call}
 use Rattle.tape.specs.First.{Started}
 use Rattle.tape.specs.Orders.{orderAfter, tapeAfter, Premise}
-use Rattle.tape.proofs.Steps.{Kept}
-use Rattle.tape.proofs.Corrected.{KeptTape, tape-kept, both-sound, corrected-from}
+use Rattle.tape.proofs.Records.{WithinLimit}
+use Rattle.tape.proofs.Corrected.{tape-is-sound, both-sound, corrected-from}
+use Rattle.tape.proofs.OneCall.{SoundTape}
 
 module _ (w n : ℕ) (key : List ℕ) (lent : Lent) (cs : List Call) (accepted : startCall w n key .number ≡ 0) where
   abbrev T : Tape
@@ -38,20 +39,20 @@ module _ (w n : ℕ) (key : List ℕ) (lent : Lent) (cs : List Call) (accepted :
   abbrev split : Split
   split = cond (T .begun) (tapeSplit w n (T .bytes) (T .number)) notBegun
 
-  kept : KeptTape w T
-  kept = tape-kept w n (Started key) lent cs accepted
+  good : SoundTape w T
+  good = tape-is-sound w n (Started key) lent cs accepted
 
   first : Keyed w n (length key) 0
   first = start-accepted w n key accepted
 
   sounds : (sound (recordOf w n (T .bytes)) ≡ true) × (sound (withSplit (recordOf w n (T .bytes)) split) ≡ true)
   unfolding tapeRecord
-  sounds = both-sound w n T (first .wordSize) (first .digestLength) kept
+  sounds = both-sound w n T (first .wordSize) (first .digestLength) good
 
   -- the message m is what the tape has after the key's inner block
   module _ (m : List ℕ) (after : T .bytes ≡ innerKey w n key ++ m) where
-    both : Kept (innerKey w n key ++ m)
-    both = subst Kept after (kept .bytes)
+    both : WithinLimit (innerKey w n key ++ m)
+    both = subst WithinLimit after (good .bytes)
 
     keyed : Keyed w n (length key) (length m)
     keyed = keyed-message w n key accepted m (both .few)
@@ -68,9 +69,9 @@ module _ (w n : ℕ) (key : List ℕ) (lent : Lent) (cs : List Call) (accepted :
           ap (λ (r : Record). finishAnswer r (length key) (length output)) remains
               ∙ finish-answer-unfinished (recordOf w n (T .bytes)) split (sounds .0) (sounds .1) (length key) (length output)
               ∙ ap (λ (s : List ℕ). finishAnswer (recordOf w n s) (length key) (length output)) after
-              ∙ same-answer w n key m keyed (length output),
+              ∙ finish-answer w n key m keyed (length output),
           ap (λ (r : Record). finishOutput r key output) remains
               ∙ finish-output-unfinished (recordOf w n (T .bytes)) split (sounds .0) (sounds .1) key output
               ∙ ap (λ (s : List ℕ). finishOutput (recordOf w n s) key output) after
-              ∙ same-output w n key m keyed message-bytes output,
+              ∙ finish-output w n key m keyed message-bytes output,
         )

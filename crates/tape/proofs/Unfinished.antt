@@ -1,11 +1,11 @@
 -- The record of the bytes s with a split rewind begun and k blocks handed back: it is sound, what was handed back are the last bytes of s, and what the
 -- steps make of it.
 -- Assumes nothing.
-use mathlib.Core.Path.{_≡_, refl, sym, ap, _∙_, subst}
+use mathlib.Core.Path.{_≡_, refl, sym, ap, ap₂, _∙_, subst}
 use mathlib.Core.Bool.{Bool, true, false, cond, not, _&&_, _||_, false≢true}
 use mathlib.Core.List.{List, [], _∷_, _++_}
 use Prim.Native.Nat.{ℕ, suc, _+_, _-_, _*_, _/_, _%_, _≤_, _<_, zero-le}
-use native.Mathlib.Nat.{sub-zero, one-mul, zero-div, mod-lt, div-add-mod', mul-add-div-right, mul-le-mul-right, suc-mul, le-of-eq}
+use native.Mathlib.Nat.{sub-zero, one-mul, mod-lt, div-add-mod', mul-div-cancel, mul-le-mul-right, suc-mul, le-of-eq}
 use native.Mathlib.Omega.{arith}
 use lib.Dec.{eqb}
 use lib.ListN.{length, take, drop, replicate, length-drop, length-replicate, take-append-drop}
@@ -13,13 +13,16 @@ use lib.Seq.{take-at, take-take, length-take-le}
 use borrow.Author.Tests.{eq-eqb, ne-eqb, eqb-true}
 use Rattle.lsh.specs.WordSize.{WordSize, isWordSize, sizeOf, blockBytes}
 use Rattle.lsh.specs.Bytes.{wordsOf}
-use Rattle.lsh.specs.Block.{Chain, forwards, backwards}
+use Rattle.lsh.specs.Block.{Chain, forward, forwards, backwards}
 use Rattle.lsh.specs.Opening.{opening}
-use Rattle.lsh.specs.Padding.{firstBlocks, blocksOf, restOf}
+use Rattle.lsh.specs.Padding.{blocksOf, restOf}
+use Rattle.lsh.specs.Chains.{chainAfter}
 use Rattle.lsh.proofs.Figures.{amounts, block-some}
-use Rattle.lsh.proofs.Blocks.{forwards-chain, forwards-append, backwards-forwards}
+use Rattle.lsh.proofs.Block.{backward-forward}
+use Rattle.lsh.proofs.Blocks.{forwards-chain}
 use Rattle.lsh.proofs.Opening.{opening-chain}
-use Rattle.lsh.proofs.Padding.{firstBlocks-more, firstBlocks-front, length-rest, one-block}
+use Rattle.lsh.proofs.Padding.{length-rest, one-block}
+use Rattle.lsh.proofs.Chains.{after-more, after-all, after-chain, after-take}
 use Rattle.runs.specs.Limits.{longestBlock, isDigestLength}
 use Rattle.runs.proofs.Limits.{block-most}
 use Rattle.runs.proofs.Zeros.{filled-length}
@@ -31,25 +34,25 @@ use Rattle.record.specs.declared.Record.{Record}
 use Rattle.record.specs.declared.Split.{Split}
 use Rattle.record.specs.declared.Outcome.{Outcome}
 use Rattle.record.specs.Split.{notBegun}
-use Rattle.record.specs.Record.{heldOf, heldBytes, sound, isBegun, withSplit, recordOf, refused}
+use Rattle.record.specs.Record.{heldOf, heldBytes, sound, isBegun, withSplit, recordOf}
 use Rattle.record.specs.Arrays.{Arrays}
 use Rattle.record.proofs.Lists.{all-zero}
 use Rattle.record.proofs.Sound.{chain-below}
 use Rattle.record.proofs.Begun.{one-begun-sound, with-sound}
 use Rattle.record.proofs.Strings.{held-record, record-idle, filled-zero}
-use Rattle.rewind.specs.Rewind.{keepsTooMuch, reached}
+use Rattle.rewind.specs.Rewind.{keepsTooMuch, reached, cutCall}
 use Rattle.rewind.proofs.Lengths.{OnBlock, keeps-few}
 use Rattle.split_rewind.specs.Begin.{begun}
 use Rattle.split_rewind.specs.HandBack.{handedBack}
-use Rattle.split_rewind.specs.End.{lastBytes, endCall}
+use Rattle.split_rewind.specs.End.{lastBytes, endCut}
 use Rattle.split_rewind.specs.OneRewind.{answeredOn}
 use Rattle.split_rewind.proofs.Lengths.{before-is, blocks-on}
-use Rattle.split_rewind.proofs.OneRewind.{Handed, end-is, wound}
+use Rattle.split_rewind.proofs.OneRewind.{Handed, end-cut-is, same-cut}
 use Rattle.tape.specs.Tape.{wholeBlocks}
-use Rattle.tape.specs.TapeSteps.{blockAfter, handedLast, tapeSplit}
-use Rattle.tape.proofs.Steps.{Kept, sound-is, reached-is, last-bytes, cut-next}
+use Rattle.tape.specs.TapeRecord.{blockAfter, handedLast, tapeSplit}
+use Rattle.tape.proofs.Records.{WithinLimit, sound-is, reached-is, last-bytes, cut-next}
 
-module _ (w : ℕ) (word : isWordSize w ≡ true) (n : ℕ) (digest : isDigestLength w n ≡ true) (s : List ℕ) (kept : Kept s) where
+module _ (w : ℕ) (word : isWordSize w ≡ true) (n : ℕ) (digest : isDigestLength w n ≡ true) (s : List ℕ) (short : WithinLimit s) where
   abbrev Z : WordSize
   Z = sizeOf w
 
@@ -73,14 +76,14 @@ module _ (w : ℕ) (word : isWordSize w ≡ true) (n : ℕ) (digest : isDigestLe
   some = block-some w
 
   ok : sound R ≡ true
-  ok = sound-is w word n digest s kept
+  ok = sound-is w word n digest s short
 
   idle : isBegun R ≡ false
   idle = record-idle w n s
 
   -- a chain over whole blocks of s
-  chain-of : (bs : List (List ℕ)) → Chain Z (forwards Z bs O)
-  chain-of bs = forwards-chain Z (amounts w) bs O (opening-chain w n)
+  chain-of : (k : ℕ) → Chain Z (chainAfter Z O s k)
+  chain-of k = after-chain Z O s (amounts w) (opening-chain w n) k
 
   rest-length : length (restOf Z s) ≡ fill
   rest-length = length-rest Z some s
@@ -89,7 +92,7 @@ module _ (w : ℕ) (word : isWordSize w ≡ true) (n : ℕ) (digest : isDigestLe
   unfolding recordOf notBegun heldOf
   arrays =
       record {
-        words = chain-of (blocksOf Z s) .words;
+        words = forwards-chain Z (amounts w) (blocksOf Z s) O (opening-chain w n) .words;
         long = filled-length longestBlock (restOf Z s) (omega (arith, rest-length, mod-lt (length s) some, block-most w));
         secondWords = length-replicate {A = ℕ} 16 0;
         backLong = length-replicate {A = ℕ} longestBlock 0;
@@ -162,30 +165,22 @@ module _ (w : ℕ) (word : isWordSize w ≡ true) (n : ℕ) (digest : isDigestLe
 
     -- with no block handed back the second chain is the first, and no byte was handed back
     first-is : (not (eqb k 0) || equal (S .second) (R .chain) && allZero (S .back)) ≡ true
-    unfolding tapeSplit recordOf wholeBlocks blocksOf heldOf
+    unfolding tapeSplit recordOf wholeBlocks heldOf
     first-is = go (eqb k 0) refl
       where
         go : (t : Bool) → eqb k 0 ≡ t
-            → (not t || equal (forwards Z (firstBlocks Z (m - k) s) O) (forwards Z (firstBlocks Z m s) O) && allZero (zeroFilled longestBlock (handedLast w s k))) ≡ true
+            → (not t || equal (chainAfter Z O s (m - k)) (R .chain) && allZero (zeroFilled longestBlock (handedLast w s k))) ≡ true
         go true e =
             let all : m - k ≡ m = omega (arith, eqb-true k 0 e) in
-            rw (all, equal-self (forwards Z (firstBlocks Z m s) O), none-handed e) (all-zero longestBlock)
+            rw (all, after-all Z O s, equal-self (R .chain), none-handed e) (all-zero longestBlock)
         go false e = refl
 
-    -- the blocks before h
-    front-is : blocksOf Z (take (length s - length h) s) ≡ firstBlocks Z (m - k) s
-    unfolding blocksOf
-    front-is =
-        let p : List ℕ = take (length s - length h) s in
-        let l : length p ≡ (m - k) * B = omega (arith, length-take-le (length s - length h) s (omega arith), h-size, before) in
-        let more : length p ≡ (m - k) * B + 0 = omega (arith, l) in
-        let blocks : length p / B ≡ m - k = omega (arith, ap (λ (i : ℕ). i / B) more ∙ mul-add-div-right some (m - k) 0, zero-div B) in
-        let joins : p ++ h ≡ s = ap (λ (t : List ℕ). p ++ t) back ∙ take-append-drop (length s - length h) s in
-        ap (λ (i : ℕ). firstBlocks Z i p) blocks ∙ sym (firstBlocks-front Z (m - k) p h (omega (arith, l))) ∙ ap (firstBlocks Z (m - k)) joins
-
+    -- the chain before h
     second-is : S .second ≡ reached R h
     unfolding tapeSplit wholeBlocks
-    second-is = sym (reached-is w word n s 0 h on-h (zero-le, some) back ∙ ap (λ (bs : List (List ℕ)). forwards Z bs O) front-is)
+    second-is =
+        after-take Z some O s (m - k) (omega (arith, before))
+        ∙ sym (reached-is w word n s 0 h on-h (zero-le, some) back ∙ ap (λ (i : ℕ). forwards Z (blocksOf Z (take i s)) O) (ap (λ (i : ℕ). length s - i) h-size ∙ before))
 
     -- with no block handed back h are the held bytes
     none-more : eqb k 0 ≡ true → restOf Z s ≡ h
@@ -215,7 +210,7 @@ module _ (w : ℕ) (word : isWordSize w ≡ true) (n : ℕ) (digest : isDigestLe
               record {
                 mark = refl;
                 upTo = up-to;
-                below = chain-below w (forwards Z (firstBlocks Z (m - k) s) O) word (chain-of (firstBlocks Z (m - k) s));
+                below = chain-below w (chainAfter Z O s (m - k)) word (chain-of (m - k));
                 zero = zero-is;
                 first = first-is;
               };
@@ -233,23 +228,17 @@ module _ (w : ℕ) (word : isWordSize w ≡ true) (n : ℕ) (digest : isDigestLe
     unfolding isBegun withSplit tapeSplit
     begun-y = refl
 
-    -- the end: 7, or the record of what remains
-    pub end-much : (keep : ℕ) → keepsTooMuch B keep size ≡ true → endCall Y keep ≡ refused 7 Y
-    unfolding recordOf
-    end-much keep much = end-is R arrays ok idle h S handed-is keep sound-y begun-y ∙ rw (h-size, much)
-
+    -- the end where the tests before 9 are passed: the record of what remains
     pub end-cut : (keep : ℕ) → keepsTooMuch B keep size ≡ false
-        → _≡_ {A = Outcome} (endCall Y keep) (record { number = 0; count = size / B; next = recordOf w n (take (length s - size + keep) s) })
+        → _≡_ {A = Outcome} (cutCall Y (endCut Y keep)) (record { number = 0; count = size / B; next = recordOf w n (take (length s - size + keep) s) })
     unfolding recordOf answeredOn
     end-cut keep few =
         let most : (keep ≤ size) × (keep < B) = keeps-few B keep size few in
-        let much : keepsTooMuch B keep (length h) ≡ false = ap (keepsTooMuch B keep) h-size ∙ few in
         let some-h : keep ≤ length h = omega (arith, h-size, most .0) in
-        end-is R arrays ok idle h S handed-is keep sound-y begun-y
-        ∙ rw much
-        (wound R arrays ok idle h S handed-is keep some-h (most .1)
+        ap (cutCall Y) (end-cut-is R arrays ok idle h S handed-is keep)
+        ∙ same-cut R arrays ok idle h S handed-is keep some-h (most .1)
         ∙ ap (answeredOn Y) (cut-next w word n s keep h on-h (some-h, most .1) back)
-        ∙ ap (λ (i : ℕ). record { number = 0; count = i / B; next = recordOf w n (take (length s - i + keep) s) }) h-size)
+        ∙ ap (λ (i : ℕ). record { number = 0; count = i / B; next = recordOf w n (take (length s - i + keep) s) }) h-size
 
     -- a block more
     module _ (b : List ℕ) (is : b ≡ blockAfter w s (m - (k + 1))) (less : k < m) where
@@ -265,29 +254,20 @@ module _ (w : ℕ) (word : isWordSize w ≡ true) (n : ℕ) (digest : isDigestLe
           ∙ length-take-le B (drop (j * B) s)
           (omega (arith, length-drop (j * B) s, mul-le-mul-right B fits, suc-mul j B, div-add-mod' (length s) B))
 
-      -- those before it and itself
-      with-it : firstBlocks Z (m - k) s ≡ firstBlocks Z j s ++ blocksOf Z b
-      unfolding blockAfter
-      with-it =
-          let next : m - k ≡ suc j = omega (arith, less) in
-          ap (λ (i : ℕ). firstBlocks Z i s) next
-          ∙ firstBlocks-more Z j s
-          ∙ ap (λ (t : List ℕ). firstBlocks Z j s ++ wordsOf Z 32 t ∷ []) (sym is)
-          ∙ ap (λ (bs : List (List ℕ)). firstBlocks Z j s ++ bs) (sym (one-block Z some b b-length))
-
-      run-back : backwards Z (blocksOf Z b) (forwards Z (firstBlocks Z (m - k) s) O) ≡ forwards Z (firstBlocks Z j s) O
+      run-back : backwards Z (blocksOf Z b) (chainAfter Z O s (m - k)) ≡ chainAfter Z O s j
+      unfolding blockAfter backwards forward
       run-back =
-          ap (λ (bs : List (List ℕ)). backwards Z (blocksOf Z b) (forwards Z bs O)) with-it
-          ∙ ap (backwards Z (blocksOf Z b)) (forwards-append Z (firstBlocks Z j s) (blocksOf Z b) O)
-          ∙ backwards-forwards Z (amounts w) (blocksOf Z b) (forwards Z (firstBlocks Z j s) O) (chain-of (firstBlocks Z j s))
+          let next : m - k ≡ suc j = omega (arith, less) in
+          ap₂ (backwards Z) (one-block Z some b b-length) (ap (chainAfter Z O s) next ∙ after-more Z O s j ∙ ap (λ (t : List ℕ). forward Z (wordsOf Z 32 t) (chainAfter Z O s j)) (sym is))
+          ∙ backward-forward Z (amounts w) (wordsOf Z 32 b) (Z .steps) (chainAfter Z O s j) (chain-of j)
 
       pub block-more : handedBack Y b ≡ tapeSplit w n s (k + 1)
       unfolding handedBack withSplit recordOf tapeSplit handedLast wholeBlocks
       block-more =
           let more : eqb (k + 1) 0 ≡ false = ne-eqb (k + 1) 0 (λ e. omega (arith, e)) in
-          rw (more, run-back) (ap (λ (t : List ℕ). record { mark = 1; second = forwards Z (firstBlocks Z j s) O; back = heldOf t; blocks = k + 1 }) is)
+          rw (more, run-back) (ap (λ (t : List ℕ). record { mark = 1; second = chainAfter Z O s j; back = heldOf t; blocks = k + 1 }) is)
 
   -- none yet
   pub none-yet : begun R ≡ tapeSplit w n s 0
-  unfolding begun recordOf tapeSplit handedLast wholeBlocks blocksOf
-  none-yet = rw (sub-zero m)
+  unfolding begun recordOf tapeSplit handedLast wholeBlocks
+  none-yet = rw (sub-zero m, after-all Z O s)

@@ -1,7 +1,6 @@
 -- The calls that change an order, on what is kept of it and on the tape, and the premise of demand 3.
 -- Assumes nothing.
 use mathlib.Core.Path.{_≡_}
-use mathlib.Core.Bool.{not, cond}
 use mathlib.Core.List.{List}
 use Prim.Native.Nat.{ℕ, _+_, _-_}
 use lib.ListN.{length, drop}
@@ -18,10 +17,10 @@ use Rattle.split_rewind.specs.End.{endCall}
 use Rattle.split_rewind.specs.Abandon.{abandonCall}
 use Rattle.append_roll.specs.AppendRoll.{appendRollCall, appendedRoll}
 use Rattle.rewind_roll.specs.RewindRoll.{rewindRollCall, rewoundRoll}
-use Rattle.end_roll.specs.EndRoll.{endRollCall, endedRoll}
+use Rattle.rewind_roll.specs.EndRoll.{endRollCall, endedRoll}
 use Rattle.tape.specs.Sequence.{Answer, Given}
-use Rattle.tape.specs.Tape.{Lent, byLent, Tape, wholeBlocks, stays, plainly, tapeAppend, tapeRewind}
-use Rattle.tape.specs.TapeSteps.{tapeBegin, tapeHandBack, tapeEnd, tapeAbandon, blockAfter}
+use Rattle.tape.specs.Tape.{Lent, byLent, Tape, wholeBlocks, tapeAppend, tapeRewind, tapeBegin, tapeHandBack, tapeEnd, tapeAbandon}
+use Rattle.tape.specs.TapeRecord.{blockAfter}
 
 -- a call with its arguments: the piece; keep, and the bytes handed back; and of a split rewind the held bytes, a block, and keep
 pub data Call : Type 0 where
@@ -55,14 +54,14 @@ orderCall lent o (End keep) =
     byLent lent (given (endCall (o .kept) keep) (o .roll)) (given (endRollCall (o .kept) keep (o .roll)) (endedRoll (o .kept) keep (o .roll)))
 orderCall lent o Abandon = given (abandonCall (o .kept)) (o .roll)
 
--- a call on the tape of word size w: 17 by the mark, then by the call
+-- a call on the tape of word size w
 abbrev pub tapeCall : ℕ → Lent → Tape → Call → Given Tape
-tapeCall w lent t (Append piece) = cond (t .begun) (stays 17 t) (plainly (tapeAppend w lent (t .bytes) (piece .list)))
-tapeCall w lent t (Rewind keep h) = cond (t .begun) (stays 17 t) (plainly (tapeRewind w (t .bytes) keep (length (h .list))))
-tapeCall w lent t (Begin h) = cond (t .begun) (stays 17 t) (tapeBegin w t (length (h .list)))
-tapeCall w lent t (HandBack block) = cond (not (t .begun)) (stays 17 t) (tapeHandBack w t (length (block .list)))
-tapeCall w lent t (End keep) = cond (not (t .begun)) (stays 17 t) (tapeEnd w t keep)
-tapeCall w lent t Abandon = cond (not (t .begun)) (stays 17 t) (tapeAbandon t)
+tapeCall w lent t (Append piece) = tapeAppend w lent t (piece .list)
+tapeCall w lent t (Rewind keep h) = tapeRewind w t keep (length (h .list))
+tapeCall w lent t (Begin h) = tapeBegin w t (length (h .list))
+tapeCall w lent t (HandBack block) = tapeHandBack w t (length (block .list))
+tapeCall w lent t (End keep) = tapeEnd w t keep
+tapeCall w lent t Abandon = tapeAbandon t
 
 -- what the tape has where a call hands back: for a Rewind its last bytes, as many as h has, for a begin those after its whole blocks, and for a
 -- hand-back its last whole block not yet handed back

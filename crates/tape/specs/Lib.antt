@@ -1,6 +1,6 @@
 pub mod Sequence
 pub mod Tape
-pub mod TapeSteps
+pub mod TapeRecord
 pub mod Calls
 pub mod TapeRoll
 pub mod Orders
@@ -8,3 +8,4 @@ pub mod Corrected
 pub mod ByLength
 pub mod TakenUp
 pub mod First
+pub mod AsOneRewind

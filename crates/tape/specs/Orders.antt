@@ -7,7 +7,7 @@ use Prim.Native.Nat.{ℕ}
 use Rattle.record.specs.declared.Record.{Record}
 use Rattle.tape.specs.Sequence.{Answer, after, answers, Throughout}
 use Rattle.tape.specs.Tape.{Lent, Tape, plain}
-use Rattle.tape.specs.TapeSteps.{tapeRecord}
+use Rattle.tape.specs.TapeRecord.{tapeRecord}
 use Rattle.tape.specs.Calls.{Call, Order, orderCall, tapeCall, HandsBack}
 use Rattle.tape.specs.TapeRoll.{RollShows, lentRoll}
 

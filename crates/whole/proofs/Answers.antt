@@ -1,13 +1,12 @@
--- What an answer says of a call of Whole, and the output after each answer.
+-- What an answer says of a call of Whole, and the receipt that is written.
 -- Assumes nothing.
 use mathlib.Core.Path.{_≡_, refl, sym, ap, ap₂, _∙_}
-use mathlib.Core.Bool.{Bool, true, false, not, cond}
-use mathlib.Core.List.{List, _∷_, _++_}
+use mathlib.Core.Bool.{true, not}
+use mathlib.Core.List.{List, [], _∷_, _++_}
 use Prim.Native.Nat.{ℕ, _+_, _-_, _*_, _%_, _^_, _≤_, _<_}
-use native.Mathlib.Omega.{arith}
-use borrow.Author.Tests.{eq-eqb, ne-eqb, ltb-false}
+use borrow.Author.Tests.{ltb-false, not-false}
 use lib.Dec.{ltb}
-use lib.ListN.{length, drop, replicate}
+use lib.ListN.{length, replicate}
 use Rattle.lsh.specs.WordSize.{isWordSize, sizeOf, blockBytes}
 use Rattle.lsh.specs.Block.{forwards}
 use Rattle.lsh.specs.Opening.{opening}
@@ -17,11 +16,12 @@ use Rattle.lsh.specs.Hash.{digest, hash, lsh}
 use Rattle.lsh.specs.ByteString.{Bytes}
 use Rattle.lsh.proofs.Figures.{block-some}
 use Rattle.message.proofs.Padded.{padded-bytes}
+use Rattle.answers.proofs.Tests.{test, passed}
 use Rattle.runs.specs.Limits.{isDigestLength, limit}
-use Rattle.finalization.specs.Receipt.{receiptBytes, receipt}
+use Rattle.finalization.specs.Receipt.{receipt}
 use Rattle.finalization.specs.Ending.{messageBits, endAnswer}
 use Rattle.finalization.proofs.Ending.{Ended, ended, message-length}
-use Rattle.whole.specs.Whole.{wholeAnswer, wholeOutput}
+use Rattle.whole.specs.Whole.{wholeAnswer}
 
 -- an accepted call
 pub record Accepted (w n len last e size : ℕ) : Type 0 where
@@ -30,50 +30,29 @@ pub record Accepted (w n len last e size : ℕ) : Type 0 where
   pub within : len ≤ limit
   pub end : Ended last e size
 
-module _ (w n len last e size : ℕ) where
-  front : wholeAnswer w n len last e size ≡ 0
-      → (isWordSize w ≡ true) × (isDigestLength w n ≡ true) × (ltb limit len ≡ false) × (endAnswer last e size ≡ 0)
-  unfolding wholeAnswer
-  front is = go (isWordSize w) (isDigestLength w n) (ltb limit len) (endAnswer last e size) is
-    where
-      go : (p q r : Bool) (a : ℕ) → cond (not p) 1 (cond (not q) 2 (cond r 5 a)) ≡ 0 → (p ≡ true) × (q ≡ true) × (r ≡ false) × (a ≡ 0)
-      go true true false a is = (refl, refl, refl, is)
-      go true true true a is = absurd (omega arith)
-      go true false r a is = absurd (omega arith)
-      go false q r a is = absurd (omega arith)
+pub accepted : (w n len last e size : ℕ) → wholeAnswer w n len last e size ≡ 0 → Accepted w n len last e size
+unfolding wholeAnswer
+accepted w n len last e size is =
+    let p =
+    passed (λ (k : ℕ). k) (test (not (isWordSize w)) 1 ∷ test (not (isDigestLength w n)) 2 ∷ test (ltb limit len) 5 ∷ []) (endAnswer last e size) refl is in
+    record {
+      wordSize = not-false (isWordSize w) (p .0 0);
+      digestLength = not-false (isDigestLength w n) (p .0 1);
+      within = ltb-false limit len (p .0 2);
+      end = ended last e size (sym (p .1) ∙ is);
+    }
 
-  pub accepted : wholeAnswer w n len last e size ≡ 0 → Accepted w n len last e size
-  accepted is =
-      record {
-        wordSize = front is .0;
-        digestLength = front is .1;
-        within = ltb-false limit len (front is .2);
-        end = ended last e size (front is .3);
-      }
-
-module _ (w n : ℕ) (m : List ℕ) (last e : ℕ) (output : List ℕ) where
-  abbrev answer : ℕ
-  answer = wholeAnswer w n (length m) last e (length output)
-
-  pub refused-output : {a : ℕ} → a ≡ answer → (a ≡ 0 → ⊥) → (a ≡ answer) × (output ≡ wholeOutput w n m last e output)
-  unfolding wholeOutput
-  refused-output is other = (is, rw (ne-eqb answer 0 (λ p. other (is ∙ p))))
-
-  pub accepted-output : {p : ℕ} {t d : List ℕ} → answer ≡ 0 → Bytes m → last < 256 → p ≡ last + 2 ^ (7 - e)
-      → t ≡ forwards (sizeOf w) (blocksOf (sizeOf w) (m ++ p ∷ replicate (blockBytes (sizeOf w) - 1 - length m % blockBytes (sizeOf w)) 0)) (opening (sizeOf w) n)
-      → d ≡ receipt w n (digest (sizeOf w) n t) (8 * length m + e) ++ drop receiptBytes output
-      → (0 ≡ answer) × (d ≡ wholeOutput w n m last e output)
-  unfolding wholeOutput lsh hash messageBits
-  accepted-output {p} {t} {d} is bytes byte pad run stored =
-      let a : Accepted w n (length m) last e (length output) = accepted w n (length m) last e (length output) is in
-      let tail : List ℕ = replicate (blockBytes (sizeOf w) - 1 - length m % blockBytes (sizeOf w)) 0 in
-      let whole : m ++ p ∷ tail ≡ bytesOfBits (padded (sizeOf w) (messageBits m last e)) =
-      ap (λ (b : ℕ). m ++ b ∷ tail) pad
-      ∙ sym (padded-bytes (sizeOf w) m last e (block-some w) bytes byte (a .end .extra) (a .end .low)) in (
-        sym is,
-        stored
-            ∙ ap₂ (λ (c : List ℕ) (bits : ℕ). receipt w n (digest (sizeOf w) n c) bits ++ drop receiptBytes output)
-            (run ∙ ap (λ (s : List ℕ). forwards (sizeOf w) (blocksOf (sizeOf w) s) (opening (sizeOf w) n)) whole)
-            (sym (message-length m last e (a .end .extra)))
-            ∙ sym (rw (eq-eqb answer 0 is)),
-      )
+-- the receipt of the chain that the code reaches is that of the message
+pub receipt-is : (w n : ℕ) (m : List ℕ) (last e : ℕ) {p : ℕ} {t : List ℕ} → Bytes m → last < 256 → e ≤ 7 → last % 2 ^ (8 - e) ≡ 0 → p ≡ last + 2 ^ (7 - e)
+    → t ≡ forwards (sizeOf w) (blocksOf (sizeOf w) (m ++ p ∷ replicate (blockBytes (sizeOf w) - 1 - length m % blockBytes (sizeOf w)) 0)) (opening (sizeOf w) n)
+    → receipt w n (digest (sizeOf w) n t) (8 * length m + e) ≡ receipt w n (lsh w n (messageBits m last e)) (length (messageBits m last e))
+unfolding lsh hash messageBits
+receipt-is w n m last e bytes byte extra low pad run =
+    let tail : List ℕ = replicate (blockBytes (sizeOf w) - 1 - length m % blockBytes (sizeOf w)) 0 in
+    let whole : m ++ (last + 2 ^ (7 - e)) ∷ tail ≡ bytesOfBits (padded (sizeOf w) (messageBits m last e)) =
+    sym (padded-bytes (sizeOf w) m last e (block-some w) bytes byte extra low) in
+    ap₂ (λ (c : List ℕ) (bits : ℕ). receipt w n (digest (sizeOf w) n c) bits)
+    (run
+    ∙ ap (λ (b : ℕ). forwards (sizeOf w) (blocksOf (sizeOf w) (m ++ b ∷ tail)) (opening (sizeOf w) n)) pad
+    ∙ ap (λ (s : List ℕ). forwards (sizeOf w) (blocksOf (sizeOf w) s) (opening (sizeOf w) n)) whole)
+    (sym (message-length m last e extra))

@@ -14,6 +14,7 @@ use Rattle.lsh.specs.Bits.{bitsOfByte, numberOf, bytesOfBits}
 use Rattle.lsh.specs.Hash.{lsh}
 use Rattle.message.proofs.Bits.{low-zero}
 use Rattle.message.proofs.Back.{number-lt, bits-of-byte, length-bytes, whole-back, bits-bytes}
+use Rattle.answers.proofs.Output.{written-is}
 use Rattle.runs.specs.Limits.{isDigestLength, limit}
 use Rattle.finalization.specs.Receipt.{receiptBytes, receipt}
 use Rattle.finalization.specs.Ending.{messageBits, mostBits, endAnswer}
@@ -76,8 +77,8 @@ module _ (m : List Bool) where
         → wholeOutput w n bytes last e output ≡ receipt w n (lsh w n m) (length m) ++ drop receiptBytes output
     unfolding wholeOutput
     written w n output word digest fits =
-        rw (eq-eqb (wholeAnswer w n (length bytes) last e (length output)) 0 (accepted w n (length output) word digest fits))
-        (ap (λ (b : List Bool). receipt w n (lsh w n b) (length b) ++ drop receiptBytes output) message)
+        written-is _ receiptBytes _ output (accepted w n (length output) word digest fits)
+        ∙ ap (λ (b : List Bool). receipt w n (lsh w n b) (length b) ++ drop receiptBytes output) message
 
 pub every-message : (m : List Bool) → length m ≤ mostBits → Asked m
 every-message m few =

@@ -1,12 +1,13 @@
 -- Whole of document 01 ("Receipts and the tally"): the answer, and the output after the call.
 -- Assumes nothing.
 use mathlib.Core.Bool.{not, cond}
-use mathlib.Core.List.{List, _++_}
+use mathlib.Core.List.{List}
 use Prim.Native.Nat.{ℕ}
-use lib.Dec.{ltb, eqb}
-use lib.ListN.{length, drop}
+use lib.Dec.{ltb}
+use lib.ListN.{length}
 use Rattle.lsh.specs.WordSize.{isWordSize}
 use Rattle.lsh.specs.Hash.{lsh}
+use Rattle.answers.specs.Output.{written}
 use Rattle.runs.specs.Limits.{isDigestLength, limit}
 use Rattle.finalization.specs.Receipt.{receiptBytes, receipt}
 use Rattle.finalization.specs.Ending.{messageBits, endAnswer}
@@ -20,9 +21,9 @@ wholeAnswer w n len last e size =
     (cond (ltb limit len) 5
     (endAnswer last e size)))
 
--- the output after the call: its front replaced by the receipt of the message's digest and length if the answer is 0, else as it came
+-- the receipt of the message's digest and length is written
 unfoldable pub wholeOutput : ℕ → ℕ → List ℕ → ℕ → ℕ → List ℕ → List ℕ
 wholeOutput w n s last e output =
-    cond (eqb (wholeAnswer w n (length s) last e (length output)) 0)
-    (receipt w n (lsh w n (messageBits s last e)) (length (messageBits s last e)) ++ drop receiptBytes output)
+    written (wholeAnswer w n (length s) last e (length output)) receiptBytes
+    (receipt w n (lsh w n (messageBits s last e)) (length (messageBits s last e)))
     output

@@ -4,9 +4,14 @@
 //! of `include/lsh_kiosk.h`.
 
 mod replay;
-pub mod roll;
 
-pub use replay::{hex, program, replay, Script};
+pub use model::receipts::{receipt, DIGEST_PLACE, LENGTH_PLACE, RECEIPT_BYTES};
+pub use model::record::{places, Outcome, Record};
+pub use model::rolls as roll;
+pub use model::script::hex;
+pub use model::till::{bit_length, MOST_BITS, MOST_RECEIPTS};
+pub use model::MOST_BYTES;
+pub use replay::{compare_text, program, record_line, sample, sample_record, set_line, Script};
 
 use std::mem::offset_of;
 
@@ -20,79 +25,6 @@ pub const BAD_ROLL: u32 = 15;
 pub const FULL_ROLL: u32 = 16;
 pub const OUT_OF_TURN: u32 = 17;
 pub const NO_WHOLE_BYTES: u32 = 18;
-
-/// The most bytes of a message or of an order, and the most bits of a message.
-pub const MOST_BYTES: u64 = 1 << 40;
-pub const MOST_BITS: u64 = 8 * MOST_BYTES + 7;
-
-/// Bytes of a receipt, and the most receipts of a list.
-pub const RECEIPT_BYTES: usize = 76;
-pub const MOST_RECEIPTS: usize = 960;
-
-/// Where the digest stands in a receipt, and where the length of the message in bits.
-pub const DIGEST_PLACE: usize = 4;
-pub const LENGTH_PLACE: usize = 68;
-
-/// The receipt of a digest of n bits, of a message of so many bits: w, 0, the two bytes of n, the digest, zeros and the
-/// length.
-pub fn receipt(w: u64, n: u64, digest: &[u8], bits: u64) -> Vec<u8> {
-    assert_eq!(digest.len() as u64, n.div_ceil(8), "bytes of a digest of {n} bits");
-    let mut receipt = vec![w as u8, 0];
-    receipt.extend((n as u16).to_le_bytes());
-    receipt.extend(digest);
-    receipt.resize(LENGTH_PLACE, 0);
-    receipt.extend(bits.to_le_bytes());
-    receipt
-}
-
-/// The length of the message in bits, as its receipt has it.
-pub fn bit_length(receipt: &[u8]) -> u64 {
-    u64::from_le_bytes(receipt[LENGTH_PLACE..RECEIPT_BYTES].try_into().unwrap())
-}
-
-/// The record of an order, and how far a split rewind of it is.
-#[repr(C)]
-#[derive(Clone, Copy, PartialEq, Eq, Debug)]
-pub struct Record {
-    pub w: u64,
-    pub n: u64,
-    pub total: u64,
-    pub chain: [u64; 16],
-    pub held: [u8; 256],
-    pub mark: u64,
-    pub second: [u64; 16],
-    pub back: [u8; 256],
-    pub blocks: u64,
-}
-
-impl Record {
-    /// A record with no split rewind begun.
-    pub fn none_begun(w: u64, n: u64, total: u64, chain: [u64; 16], held: [u8; 256]) -> Record {
-        Record { w, n, total, chain, held, mark: 0, second: [0; 16], back: [0; 256], blocks: 0 }
-    }
-}
-
-/// These bytes at the front of 256 places, the others zero.
-pub fn places(bytes: &[u8]) -> [u8; 256] {
-    let mut places = [0; 256];
-    places[..bytes.len()].copy_from_slice(bytes);
-    places
-}
-
-/// The answer to a call on an order.
-#[repr(C)]
-#[derive(Clone, Copy, PartialEq, Eq, Debug)]
-pub struct Outcome {
-    pub number: u32,
-    pub count: u64,
-    pub next: Record,
-}
-
-impl Outcome {
-    pub fn refused(number: u32, r: &Record) -> Outcome {
-        Outcome { number, count: 0, next: *r }
-    }
-}
 
 // The header asserts these too.
 const _: () = assert!(offset_of!(Record, mark) == 408 && offset_of!(Record, second) == 416);
@@ -368,6 +300,20 @@ impl Random {
     /// The words of a chain.
     pub fn chain(&mut self, w: u64) -> [u64; 16] {
         [(); 16].map(|()| self.next() >> (64 - w))
+    }
+
+    /// A roll with so many links, in slots at random. All other bytes are random, as in slots that were taken before.
+    pub fn roll(&mut self, w: u64, slots: usize, links: usize) -> Vec<u8> {
+        let mut roll = self.bytes(roll::roll_bytes(w, slots));
+        let mut left: Vec<usize> = (1..=slots).collect();
+        let mut last = 0;
+        for _ in 0..links {
+            let slot = left.swap_remove(self.below(left.len() as u64) as usize);
+            roll::set_index(w, &mut roll, last, slot);
+            last = slot;
+        }
+        roll::set_index(w, &mut roll, last, 0);
+        roll
     }
 
     /// A sound record with this total, of no order most likely, and with no split rewind begun.

@@ -1,9 +1,13 @@
-//! The block runs of the module against those of lsh_ref, and their refusals.
+//! The block runs of the module against those of lsh_ref, and their refusals: through the archive, and some through the program replay.
 
-use compare::{block_backward, block_forward, Random, ACCEPTED, BAD_LENGTH, BAD_WORD_SIZE};
+use compare::{
+    at_both_word_sizes, block_backward, block_forward, hex, Random, Script, ACCEPTED, BAD_LENGTH, BAD_WORD_SIZE,
+};
 use lsh_ref::Word;
 
 const RANDOM_BLOCKS: usize = 50_000;
+
+at_both_word_sizes! { random_blocks patterns }
 
 /// One direction: the module's call and the run of lsh_ref.
 struct Direction<W: Word> {
@@ -36,21 +40,11 @@ fn compare_runs<W: Word>(chain: &[u8], block: &[u8]) {
     }
 }
 
-fn compare_random<W: Word>() {
+fn random_blocks<W: Word>() {
     let mut random = Random::new(W::BITS as u64);
     for _ in 0..RANDOM_BLOCKS {
         compare_runs::<W>(&random.bytes(W::CHAIN_BYTES), &random.bytes(W::BLOCK_BYTES));
     }
-}
-
-#[test]
-fn random_32() {
-    compare_random::<u32>();
-}
-
-#[test]
-fn random_64() {
-    compare_random::<u64>();
 }
 
 /// The byte repeated, and each string that differs from that in one bit.
@@ -64,7 +58,7 @@ fn one_bit_off(byte: u8, count: usize) -> Vec<Vec<u8>> {
     flipped.chain([plain.clone()]).collect()
 }
 
-fn compare_patterns<W: Word>() {
+fn patterns<W: Word>() {
     for (chain_byte, block_byte) in [(0, 0), (0, 0xff), (0xff, 0), (0xff, 0xff)] {
         for chain in one_bit_off(chain_byte, W::CHAIN_BYTES) {
             compare_runs::<W>(&chain, &vec![block_byte; W::BLOCK_BYTES]);
@@ -73,16 +67,6 @@ fn compare_patterns<W: Word>() {
             compare_runs::<W>(&vec![chain_byte; W::CHAIN_BYTES], &block);
         }
     }
-}
-
-#[test]
-fn patterns_32() {
-    compare_patterns::<u32>();
-}
-
-#[test]
-fn patterns_64() {
-    compare_patterns::<u64>();
 }
 
 /// Every refusal gives its number and leaves the chain as it is.
@@ -109,4 +93,20 @@ fn refusals() {
             }
         }
     }
+}
+
+/// Right and wrong numbers and lengths through replay.
+#[test]
+fn lines() {
+    let mut random = Random::new(2);
+    let mut script = Script::default();
+    for w in [0, 31, 32, 33, 64, 65, (1 << 32) + 32, u64::MAX] {
+        for chain_len in [0, 63, 64, 65, 127, 128, 129] {
+            for block_len in [0, 127, 128, 129, 255, 256, 257] {
+                let (chain, block) = (hex(&random.bytes(chain_len)), hex(&random.bytes(block_len)));
+                script.text(&format!("forward {w} {chain} {block}\nbackward {w} {chain} {block}\n"));
+            }
+        }
+    }
+    script.compare("block runs");
 }

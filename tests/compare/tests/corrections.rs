@@ -1,7 +1,6 @@
 //! Lists of Append and Rewind calls on an order without a roll (list/mod.rs says what is compared).
 
 mod list;
-mod record;
 mod tape;
 
 use compare::{at_both_word_sizes, Random};

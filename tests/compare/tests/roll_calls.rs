@@ -1,15 +1,12 @@
-//! Single calls with a roll, on any record with no split rewind begun and with any buffer, against a model written here over lsh_ref: through
-//! the archive, and those with small rolls once more through the program replay. Each Rewind is also made in steps.
-
-mod record;
+//! Single calls with a roll, on any record with no split rewind begun and with any buffer, against the model: through the archive, and those
+//! with small rolls once more through the program replay. Each Rewind is also made in steps.
 
 use compare::roll::{self, CHECKPOINT_BLOCKS, MOST_SLOTS};
-use compare::{at_both_word_sizes, hand_back_all, hex, Outcome, Random, Record, Script, ACCEPTED, BAD_ROLL, FULL_ROLL};
+use compare::{
+    at_both_word_sizes, hand_back_all, hex, record_line, set_line, Outcome, Random, Record, Script, ACCEPTED, BAD_ROLL,
+    FULL_ROLL, MOST_BYTES,
+};
 use lsh_ref::Word;
-use record::{record_after, record_line, record_of, set_line};
-
-/// The most bytes of an order.
-const LIMIT: u64 = 1 << 40;
 
 /// Zeros before and after a roll, so that a slot beyond its slots would end the way.
 const AROUND: usize = 600;
@@ -20,85 +17,6 @@ const LONG_ROLL: usize = 1000;
 /// Bytes from one checkpoint to the next.
 fn interval<W: Word>() -> usize {
     CHECKPOINT_BLOCKS * W::BLOCK_BYTES
-}
-
-// ---- what has to be answered ----
-
-fn is_sound(r: &Record) -> bool {
-    let in_range = (r.w == 32 || r.w == 64) && r.n > 0 && r.n <= 8 * r.w && r.total <= LIMIT;
-    in_range
-        && r.chain.iter().all(|&word| r.w == 64 || word < 1 << 32)
-        && r.held[(r.total % (4 * r.w)) as usize..].iter().all(|&byte| byte == 0)
-}
-
-fn chain_of<W: Word>(r: &Record) -> [W; 16] {
-    r.chain.map(W::from_u64)
-}
-
-/// The outcome of an Append, and the chains of the checkpoints due.
-fn right_append<W: Word>(r: &Record, piece: &[u8], roll: &[u8]) -> (Outcome, Vec<Vec<u8>>) {
-    if !is_sound(r) {
-        return (Outcome::refused(3, r), Vec::new());
-    }
-    if !roll::is_roll_of(r.w, r.total, roll) {
-        return (Outcome::refused(15, r), Vec::new());
-    }
-    if r.total + piece.len() as u64 > LIMIT {
-        return (Outcome::refused(5, r), Vec::new());
-    }
-    let held = (r.total % W::BLOCK_BYTES as u64) as usize;
-    let first = (r.total / W::BLOCK_BYTES as u64) as usize;
-    let bytes = [&r.held[..held], piece].concat();
-    let mut chain = chain_of::<W>(r);
-    let mut due = Vec::new();
-    for (number, block) in (first + 1..).zip(bytes.chunks_exact(W::BLOCK_BYTES)) {
-        chain = lsh_ref::forward(&chain, block);
-        if number.is_multiple_of(CHECKPOINT_BLOCKS) {
-            let mut stored = vec![0; W::CHAIN_BYTES];
-            lsh_ref::store_chain(&chain, &mut stored);
-            due.push(stored);
-        }
-    }
-    if roll::links(r.w, roll).unwrap().len() + due.len() > roll::slot_count(r.w, roll.len()).unwrap() {
-        return (Outcome::refused(16, r), Vec::new());
-    }
-    let done = r.total as usize - held;
-    let next = record_after(r.n, done, chain_of::<W>(r), &bytes);
-    (Outcome { number: ACCEPTED, count: (bytes.len() / W::BLOCK_BYTES) as u64, next }, due)
-}
-
-fn right_rewind<W: Word>(r: &Record, keep: u64, h: &[u8], roll: &[u8]) -> Outcome {
-    if !is_sound(r) {
-        return Outcome::refused(3, r);
-    }
-    if !roll::is_roll_of(r.w, r.total, roll) {
-        return Outcome::refused(15, r);
-    }
-    let total = r.total as usize;
-    if h.len() > total || !(total - h.len()).is_multiple_of(W::BLOCK_BYTES) {
-        return Outcome::refused(6, r);
-    }
-    if keep > h.len() as u64 || keep >= W::BLOCK_BYTES as u64 {
-        return Outcome::refused(7, r);
-    }
-    let blocks = h.chunks_exact(W::BLOCK_BYTES);
-    if *blocks.remainder() != r.held[..blocks.remainder().len()] {
-        return Outcome::refused(8, r);
-    }
-    let count = blocks.len() as u64;
-    let reached = blocks.rev().fold(chain_of::<W>(r), |chain, block| lsh_ref::backward(&chain, block));
-    let done = total - h.len();
-    if done == 0 && reached != lsh_ref::opening_chain::<W>(r.n) {
-        return Outcome::refused(9, r);
-    }
-    Outcome { number: ACCEPTED, count, next: record_after(r.n, done, reached, &h[..keep as usize]) }
-}
-
-/// Whether a begin with the last of these bytes and hand-backs of the others are taken.
-fn goes_in_steps<W: Word>(r: &Record, h: &[u8]) -> bool {
-    let rest = h.chunks_exact(W::BLOCK_BYTES).remainder();
-    let held = (r.total % W::BLOCK_BYTES as u64) as usize;
-    is_sound(r) && h.len() as u64 <= r.total && *rest == r.held[..held]
 }
 
 // ---- calls ----
@@ -130,33 +48,39 @@ impl Lent {
     }
 }
 
+/// Whether a begin with the last of these bytes and hand-backs of the others are taken.
+fn goes_in_steps(r: &Record, h: &[u8]) -> bool {
+    r.is_sound() && h.len() as u64 <= r.total && h.chunks_exact(r.block() as usize).remainder() == r.held_bytes()
+}
+
 impl Calls {
     fn new<W: Word>(seed: u64) -> Calls {
         Calls { random: Random::new(seed * W::BITS as u64), script: Script::default() }
     }
 
     /// Makes the call and compares all of it; gives the number of its answer.
-    fn append<W: Word>(&mut self, r: &Record, piece: &[u8], roll: &[u8]) -> u32 {
-        let (right, due) = right_append::<W>(r, piece, roll);
+    fn append(&mut self, r: &Record, piece: &[u8], roll: &[u8]) -> u32 {
+        let (right, due) = roll::append_roll(r, piece, roll);
         let mut lent = Lent::new(roll);
         let outcome = compare::append_roll(*r, piece, lent.roll());
         assert_eq!(outcome, right);
-        let after = if right.number == ACCEPTED { roll::laid(r.w, roll, lent.roll(), &due) } else { roll.to_vec() };
+        let after = match right.number {
+            ACCEPTED => roll::laid(r.w, roll, &roll::taken(r.w, roll, lent.roll()), &due),
+            _ => roll.to_vec(),
+        };
         lent.assert_is(&after, "an Append");
         self.script(r, roll, format!("appendroll {}", hex(piece)), "appendroll", &right, &after);
         right.number
     }
 
-    fn rewind<W: Word>(&mut self, r: &Record, keep: u64, h: &[u8], roll: &[u8]) -> u32 {
-        let right = right_rewind::<W>(r, keep, h, roll);
+    fn rewind(&mut self, r: &Record, keep: u64, h: &[u8], roll: &[u8]) -> u32 {
+        let (right, after) = roll::rewind_roll(r, keep, h, roll);
         let mut lent = Lent::new(roll);
         let outcome = compare::rewind_roll(*r, keep, h, lent.roll());
         assert_eq!(outcome, right);
-        let remaining = right.next.total as usize / interval::<W>();
-        let after = if right.number == ACCEPTED { roll::unlinked(r.w, roll, remaining) } else { roll.to_vec() };
         lent.assert_is(&after, "a Rewind");
         self.script(r, roll, format!("rewindroll {keep} {}", hex(h)), "rewindroll", &right, &after);
-        if goes_in_steps::<W>(r, h) {
+        if goes_in_steps(r, h) {
             self.rewind_in_steps(r, keep, h, roll, right, &after);
         }
         right.number
@@ -173,10 +97,9 @@ impl Calls {
     }
 
     /// Both calls with nothing to do for them but to test the roll: an empty piece, and the held bytes handed back and kept.
-    fn both<W: Word>(&mut self, r: &Record, roll: &[u8]) -> u32 {
-        let held = r.total % W::BLOCK_BYTES as u64;
-        let number = self.append::<W>(r, &[], roll);
-        assert_eq!(self.rewind::<W>(r, held, &r.held[..held as usize], roll), number);
+    fn both(&mut self, r: &Record, roll: &[u8]) -> u32 {
+        let number = self.append(r, &[], roll);
+        assert_eq!(self.rewind(r, r.held_bytes().len() as u64, r.held_bytes(), roll), number);
         number
     }
 
@@ -209,7 +132,7 @@ impl Calls {
     }
 
     fn roll<W: Word>(&mut self, slots: usize, links: usize) -> Vec<u8> {
-        roll::random_roll(W::BITS as u64, slots, links, &mut self.random)
+        self.random.roll(W::BITS as u64, slots, links)
     }
 }
 
@@ -221,18 +144,18 @@ at_both_word_sizes! { lengths cycles indexes_beyond numbers_of_links full_rolls 
 fn lengths<W: Word>() {
     let w = W::BITS as u64;
     let mut calls = Calls::new::<W>(17);
-    let opened = record_of::<W>(8 * w, &[]);
+    let opened = Record::of(w, 8 * w, &[]);
     let long = roll::roll_bytes(w, MOST_SLOTS - 1)..=roll::roll_bytes(w, MOST_SLOTS + 1) + 1;
     // Those that are right at the other word size.
     let other = (1..=MOST_SLOTS).map(|slots| roll::roll_bytes(96 - w, slots));
     for length in (0..=roll::roll_bytes(w, 4) + 1).chain(long).chain(other) {
         let number = if roll::slot_count(w, length).is_some() { ACCEPTED } else { BAD_ROLL };
-        assert_eq!(calls.both::<W>(&opened, &vec![0; length]), number, "{length} zeros");
+        assert_eq!(calls.both(&opened, &vec![0; length]), number, "{length} zeros");
         // No slot is linked, and nothing else is known of the bytes.
         let mut stale = calls.random.bytes(length);
         let head = length.min(2);
         stale[..head].fill(0);
-        assert_eq!(calls.both::<W>(&opened, &stale), number, "{length} bytes");
+        assert_eq!(calls.both(&opened, &stale), number, "{length} bytes");
     }
     calls.end("lengths of rolls");
 }
@@ -250,7 +173,7 @@ fn cycles<W: Word>() {
                 roll::set_index(w, &mut roll, way[links - 1], back);
                 for checkpoints in [links, links + 1, slots] {
                     let r = calls.record_of_checkpoints::<W>(checkpoints);
-                    assert_eq!(calls.both::<W>(&r, &roll), BAD_ROLL);
+                    assert_eq!(calls.both(&r, &roll), BAD_ROLL);
                 }
             }
         }
@@ -274,7 +197,7 @@ fn indexes_beyond<W: Word>() {
                 roll::set_index(w, &mut roll, from, index);
                 for checkpoints in [place, place + 1, links] {
                     let r = calls.record_of_checkpoints::<W>(checkpoints);
-                    assert_eq!(calls.both::<W>(&r, &roll), BAD_ROLL);
+                    assert_eq!(calls.both(&r, &roll), BAD_ROLL);
                 }
             }
         }
@@ -301,14 +224,14 @@ fn numbers_of_links<W: Word>() {
             ] {
                 let r = calls.record::<W>(total);
                 // Of an order without a block, only the opening chain is taken back.
-                let r = if total < W::BLOCK_BYTES { record_of::<W>(r.n, &r.held[..total]) } else { r };
-                assert_eq!(calls.both::<W>(&r, &roll), number, "{slots} slots, {links} links, {total} bytes");
+                let r = if total < W::BLOCK_BYTES { Record::of(r.w, r.n, &r.held[..total]) } else { r };
+                assert_eq!(calls.both(&r, &roll), number, "{slots} slots, {links} links, {total} bytes");
             }
             for checkpoints in [0, links.saturating_sub(1), links + 1, slots, slots + 1, links + 256, links + 65536] {
                 if checkpoints != links {
                     let r = calls.record_of_checkpoints::<W>(checkpoints);
                     assert_eq!(
-                        calls.both::<W>(&r, &roll),
+                        calls.both(&r, &roll),
                         BAD_ROLL,
                         "{slots} slots, {links} links, {checkpoints} checkpoints"
                     );
@@ -333,14 +256,10 @@ fn full_rolls<W: Word>() {
                 [(0, 0), (any, 0), (most - 1, 0), (most, 0), (most + 1, FULL_ROLL), (most + 2, FULL_ROLL)]
             {
                 let piece = calls.random.bytes(length);
-                assert_eq!(
-                    calls.append::<W>(&r, &piece, &roll),
-                    number,
-                    "{slots} slots, {links} links, {length} bytes"
-                );
+                assert_eq!(calls.append(&r, &piece, &roll), number, "{slots} slots, {links} links, {length} bytes");
             }
             let piece = calls.random.bytes(most + 1 + interval::<W>());
-            assert_eq!(calls.append::<W>(&r, &piece, &roll), FULL_ROLL);
+            assert_eq!(calls.append(&r, &piece, &roll), FULL_ROLL);
         }
     }
     calls.end("full rolls");
@@ -358,13 +277,13 @@ fn rolls_of_any_kind<W: Word>() {
 
         let size = calls.below(3 * interval::<W>());
         let piece = calls.random.bytes(size);
-        calls.append::<W>(&r, &piece, &roll);
+        calls.append(&r, &piece, &roll);
 
         let held = r.total as usize % W::BLOCK_BYTES;
         let blocks = calls.below((r.total as usize / W::BLOCK_BYTES).min(3 * CHECKPOINT_BLOCKS) + 1);
         let h = [calls.random.bytes(blocks * W::BLOCK_BYTES), r.held[..held].to_vec()].concat();
         let keep = calls.below(h.len().min(W::BLOCK_BYTES - 1) + 1);
-        calls.rewind::<W>(&r, keep as u64, &h, &roll);
+        calls.rewind(&r, keep as u64, &h, &roll);
     }
     calls.end("rolls of any kind");
 }
@@ -376,7 +295,7 @@ fn cuts<W: Word>() {
     let bytes = calls.random.bytes(4 * interval::<W>() + 44);
     for slots in 4..=5 {
         for total in [4 * interval::<W>(), bytes.len()] {
-            let r = record_of::<W>(n, &bytes[..total]);
+            let r = Record::of(W::BITS as u64, n, &bytes[..total]);
             let roll = calls.roll::<W>(slots, 4);
             for checkpoint in 0..=4 {
                 let place = checkpoint * interval::<W>();
@@ -389,7 +308,7 @@ fn cuts<W: Word>() {
                 ] {
                     if cut <= total {
                         let keep = cut % W::BLOCK_BYTES;
-                        assert_eq!(calls.rewind::<W>(&r, keep as u64, &bytes[cut - keep..total], &roll), ACCEPTED);
+                        assert_eq!(calls.rewind(&r, keep as u64, &bytes[cut - keep..total], &roll), ACCEPTED);
                     }
                 }
             }
@@ -423,11 +342,11 @@ fn damaged_rolls<W: Word>() {
         let checkpoints = [found, found, links][calls.below(3)];
         let past = W::BLOCK_BYTES + calls.below(interval::<W>() - W::BLOCK_BYTES);
         let r = calls.record::<W>(checkpoints * interval::<W>() + past);
-        numbers.push(calls.both::<W>(&r, &roll));
+        numbers.push(calls.both(&r, &roll));
 
         let size = [calls.below(W::BLOCK_BYTES), interval::<W>()][calls.below(2)];
         let piece = calls.random.bytes(size);
-        numbers.push(calls.append::<W>(&r, &piece, &roll));
+        numbers.push(calls.append(&r, &piece, &roll));
     }
     for number in [ACCEPTED, BAD_ROLL] {
         assert!(numbers.iter().filter(|&&given| given == number).count() > 500, "{number} is given too rarely");
@@ -444,7 +363,7 @@ fn refusals<W: Word>() {
         let mut unsound = vec![sound; 5];
         unsound[0].w = 33;
         unsound[1].n = 0;
-        unsound[2].total += LIMIT;
+        unsound[2].total += MOST_BYTES;
         unsound[3].held[1] = 1;
         unsound[4].n = 8 * w + 1;
         let full = links.max(1);
@@ -460,28 +379,28 @@ fn refusals<W: Word>() {
         let keep = W::BLOCK_BYTES as u64;
         for roll in [&right, &other_number, &beyond, &short] {
             for r in &unsound {
-                assert_eq!(calls.append::<W>(r, &piece, roll), 3);
-                assert_eq!(calls.rewind::<W>(r, keep, &longer, roll), 3);
+                assert_eq!(calls.append(r, &piece, roll), 3);
+                assert_eq!(calls.rewind(r, keep, &longer, roll), 3);
             }
         }
         for roll in [&other_number, &beyond, &short] {
-            assert_eq!(calls.append::<W>(&sound, &piece, roll), BAD_ROLL);
-            assert_eq!(calls.rewind::<W>(&sound, keep, &longer, roll), BAD_ROLL);
-            assert_eq!(calls.rewind::<W>(&sound, keep, &from_block, roll), BAD_ROLL);
-            assert_eq!(calls.rewind::<W>(&sound, 0, &from_block, roll), BAD_ROLL);
+            assert_eq!(calls.append(&sound, &piece, roll), BAD_ROLL);
+            assert_eq!(calls.rewind(&sound, keep, &longer, roll), BAD_ROLL);
+            assert_eq!(calls.rewind(&sound, keep, &from_block, roll), BAD_ROLL);
+            assert_eq!(calls.rewind(&sound, 0, &from_block, roll), BAD_ROLL);
         }
-        assert_eq!(calls.append::<W>(&sound, &piece, &right), FULL_ROLL);
-        assert_eq!(calls.rewind::<W>(&sound, keep, &longer, &right), 6);
-        assert_eq!(calls.rewind::<W>(&sound, keep, &from_block[1..], &right), 6);
-        assert_eq!(calls.rewind::<W>(&sound, keep, &from_block, &right), 7);
+        assert_eq!(calls.append(&sound, &piece, &right), FULL_ROLL);
+        assert_eq!(calls.rewind(&sound, keep, &longer, &right), 6);
+        assert_eq!(calls.rewind(&sound, keep, &from_block[1..], &right), 6);
+        assert_eq!(calls.rewind(&sound, keep, &from_block, &right), 7);
         let mut h = from_block.clone();
         h[W::BLOCK_BYTES] = sound.held[0] ^ 0x80;
-        assert_eq!(calls.rewind::<W>(&sound, 0, &h, &right), 8);
+        assert_eq!(calls.rewind(&sound, 0, &h, &right), 8);
         h[W::BLOCK_BYTES] = sound.held[0];
         let all = calls.random.bytes(sound.total as usize - 1);
         let all = [all, vec![sound.held[0]]].concat();
-        assert_eq!(calls.rewind::<W>(&sound, 0, &all, &right), 9);
-        assert_eq!(calls.rewind::<W>(&sound, 0, &h, &right), if links == 0 { 9 } else { ACCEPTED });
+        assert_eq!(calls.rewind(&sound, 0, &all, &right), 9);
+        assert_eq!(calls.rewind(&sound, 0, &h, &right), if links == 0 { 9 } else { ACCEPTED });
     }
     calls.end("refusals");
 }

@@ -1,7 +1,6 @@
 //! Lists of Append and Rewind calls on an order with a roll (list/mod.rs says what is compared).
 
 mod list;
-mod record;
 mod tape;
 
 use compare::roll::{CHECKPOINT_BLOCKS, MOST_SLOTS};

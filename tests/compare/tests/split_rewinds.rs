@@ -1,21 +1,20 @@
 //! Split rewinds: lists that mix their steps with the other calls, ends against one Rewind over the same bytes, and single steps on forged
-//! records against a model written here over lsh_ref. Lists and forged records go through the archive and once more through the program
-//! replay.
+//! records against the model. Lists and forged records go through the archive and once more through the program replay.
 
 mod forged;
 mod list;
-mod record;
 mod tape;
 
 use compare::roll::{self, CHECKPOINT_BLOCKS};
 use compare::{
-    at_both_word_sizes, hex, places, receipt, Outcome, Random, Record, Script, ACCEPTED, BAD_ROLL, MOST_BYTES,
+    at_both_word_sizes, hex, record_line, set_line, Outcome, Random, Record, Script, ACCEPTED, BAD_ROLL, MOST_BYTES,
     OUT_OF_TURN, RECEIPT_BYTES,
 };
 use forged::{forged_record, sound_records, unsound};
 use list::{Kind, List};
 use lsh_ref::Word;
-use record::{record_line, record_of, set_line, words};
+use model::receipts;
+use model::{order, split};
 
 at_both_word_sizes! { lists lists_with_a_roll ends_and_one_rewind unsound_records records_of_no_order }
 
@@ -100,7 +99,7 @@ fn compare_end<W: Word>(bytes: &[u8], order: &Record, begun: &Record, h: &[u8], 
         let one = compare::rewind(*order, keep as u64, h);
         assert_eq!(one.number, number, "{} bytes, {keep} of {} kept", bytes.len(), h.len());
         if number == ACCEPTED && *h == bytes[start..] {
-            assert_eq!(one.next, record_of::<W>(order.n, &bytes[..start + keep]));
+            assert_eq!(one.next, Record::of(order.w, order.n, &bytes[..start + keep]));
         }
         // A refused step leaves the state before it.
         let as_end = |one: Outcome| if one.number == ACCEPTED { one } else { Outcome::refused(one.number, begun) };
@@ -148,41 +147,23 @@ fn make(name: &str, r: Record, given: &Given, roll: &mut [u8]) -> (String, Outco
     }
 }
 
-/// What a step answers on a sound record, by its fields alone, and an old call on one with a split rewind begun.
-fn right<W: Word>(name: &str, r: &Record, given: &Given) -> Outcome {
+/// What the model answers, and the roll after it.
+fn right(name: &str, r: &Record, given: &Given) -> (Outcome, Vec<u8>) {
     let Given { keep, bytes, roll } = *given;
-    let block = W::BLOCK_BYTES as u64;
-    let held = r.total % block;
-    let handed_back = r.blocks * block + held;
-    let none_begun = |total, chain, bytes: &[u8]| Record::none_begun(r.w, r.n, total, chain, places(bytes));
-    let opening = || words(&lsh_ref::opening_chain::<W>(r.n));
-    let number = match name {
-        "begin" | "append" | "rewind" | "appendroll" | "rewindroll" if r.mark == 1 => OUT_OF_TURN,
-        "handback" | "end" | "endroll" | "abandon" if r.mark == 0 => OUT_OF_TURN,
-        "begin" if bytes.len() as u64 != held => 6,
-        "begin" if *bytes != r.held[..bytes.len()] => 8,
-        "handback" if bytes.len() as u64 != block || r.blocks >= r.total / block => 6,
-        "endroll" if !roll::is_roll_of(r.w, r.total, roll) => BAD_ROLL,
-        "end" | "endroll" if keep > handed_back || keep >= block => 7,
-        "end" | "endroll" if r.total == handed_back && r.second != opening() => 9,
-        _ => ACCEPTED,
-    };
-    if number != ACCEPTED {
-        return Outcome::refused(number, r);
+    let alone = |outcome| (outcome, roll.to_vec());
+    match name {
+        "append" => alone(order::append(r, bytes)),
+        "rewind" => alone(order::rewind(r, keep, bytes)),
+        // None is taken here.
+        "appendroll" => alone(roll::append_roll(r, bytes, roll).0),
+        "rewindroll" => roll::rewind_roll(r, keep, bytes, roll),
+        "begin" => alone(split::begin(r, bytes)),
+        "handback" => alone(split::hand_back(r, bytes)),
+        "end" => alone(split::end(r, keep)),
+        "endroll" => roll::end_roll(r, keep, roll),
+        "abandon" => alone(split::abandon(r)),
+        _ => panic!("a call {name}"),
     }
-    let (count, next) = match name {
-        "begin" => (0, Record { mark: 1, second: r.chain, ..*r }),
-        "handback" => {
-            let second = words(&lsh_ref::backward(&r.second.map(W::from_u64), bytes));
-            (0, Record { second, back: places(bytes), blocks: r.blocks + 1, ..*r })
-        }
-        "abandon" => (0, none_begun(r.total, r.chain, &r.held)),
-        _ => {
-            let last = if r.blocks > 0 { r.back } else { r.held };
-            (r.blocks, none_begun(r.total - handed_back + keep, r.second, &last[..keep as usize]))
-        }
-    };
-    Outcome { number, count, next }
 }
 
 /// The calls on forged records as they are made, and the record and the roll that the program has.
@@ -193,29 +174,32 @@ struct Calls {
 }
 
 impl Calls {
-    fn call(&mut self, name: &str, r: &Record, given: &Given, right: Outcome) {
+    /// Makes the call and compares all of it; gives the number of its answer.
+    fn call(&mut self, name: &str, r: &Record, given: &Given) -> u32 {
+        let (right, after) = right(name, r, given);
         let mut roll = given.roll.to_vec();
         let (rest, outcome) = make(name, *r, given, &mut roll);
         assert_eq!(outcome, right, "{name} on {r:?}");
-        let mut after = given.roll.to_vec();
-        if name == "endroll" && right.number == ACCEPTED {
-            let remaining = right.next.total as usize / (4 * r.w as usize * CHECKPOINT_BLOCKS);
-            after = roll::unlinked(r.w, given.roll, remaining);
-        }
         assert!(roll == after, "the roll after {name}");
 
         self.set(r, given.roll);
         self.script.call(format!("{name}{rest}"), format!("{name} {} {}", right.number, right.count));
         self.program = Some((right.next, after));
+        right.number
     }
 
     /// Close without more bits.
-    fn close(&mut self, r: &Record, roll: &[u8], number: u32, output: &[u8]) {
+    fn close(&mut self, r: &Record, roll: &[u8]) -> u32 {
+        let (number, output) = match receipts::close(r, 0, 0, UNTOUCHED.len()) {
+            Ok(receipt) => (ACCEPTED, receipt),
+            Err(number) => (number, UNTOUCHED.to_vec()),
+        };
         let mut written = UNTOUCHED;
         assert_eq!(compare::close(*r, 0, 0, &mut written), number, "close on {r:?}");
-        assert_eq!(written, output);
+        assert_eq!(written[..], output);
         self.set(r, roll);
-        self.script.call(format!("close 00 0 {}", UNTOUCHED.len()), format!("close {number} {}", hex(output)));
+        self.script.call(format!("close 00 0 {}", UNTOUCHED.len()), format!("close {number} {}", hex(&output)));
+        number
     }
 
     /// Gives the program a record and a roll, if it has others.
@@ -256,14 +240,14 @@ fn unsound_records<W: Word>() {
                 Given { keep: 0, bytes: held, roll: &roll },
                 Given { keep: u64::MAX, bytes: &block, roll: &roll[1..] },
             ];
-            calls.call("abandon", &r, &inputs[0], right::<W>("abandon", &r, &inputs[0]));
+            assert_eq!(calls.call("abandon", &r, &inputs[0]), if r.mark == 1 { ACCEPTED } else { OUT_OF_TURN });
             for forged in unsound(&r) {
                 for given in &inputs {
                     for name in OLD_CALLS.into_iter().chain(STEPS) {
-                        calls.call(name, &forged, given, Outcome::refused(3, &forged));
+                        assert_eq!(calls.call(name, &forged, given), 3);
                     }
                 }
-                calls.close(&forged, &roll, 3, &UNTOUCHED);
+                assert_eq!(calls.close(&forged, &roll), 3);
             }
         }
     }
@@ -280,11 +264,11 @@ fn records_of_no_order<W: Word>() {
         let mut r = forged_record::<W>(&mut random);
         // No roll is that of the longest orders.
         let links = (r.total as usize / List::<W>::INTERVAL).min(3);
-        let roll = roll::random_roll(w, links.max(1), links, &mut random);
+        let roll = random.roll(w, links.max(1), links);
         for _ in 0..3 {
             let block = random.bytes(W::BLOCK_BYTES);
             numbers.extend(try_calls::<W>(&mut calls, &r, &block, &roll));
-            r = right::<W>("handback", &r, &Given { keep: 0, bytes: &block, roll: &roll }).next;
+            r = split::hand_back(&r, &block).next;
         }
     }
     for number in [ACCEPTED, 6, 7, 8, 9, BAD_ROLL, OUT_OF_TURN] {
@@ -295,16 +279,11 @@ fn records_of_no_order<W: Word>() {
 
 /// Makes each call on the record, and gives the numbers of their answers.
 fn try_calls<W: Word>(calls: &mut Calls, r: &Record, block: &[u8], roll: &[u8]) -> Vec<u32> {
-    let held = &r.held[..(r.total % W::BLOCK_BYTES as u64) as usize];
+    let held = r.held_bytes();
     let longer = [held, &[0]].concat();
     let other: Vec<u8> = held.iter().map(|byte| byte ^ 1).collect();
     let mut numbers = Vec::new();
-    let mut call = |name, keep, bytes, roll| {
-        let given = Given { keep, bytes, roll };
-        let right = right::<W>(name, r, &given);
-        numbers.push(right.number);
-        calls.call(name, r, &given, right);
-    };
+    let mut call = |name, keep, bytes, roll| numbers.push(calls.call(name, r, &Given { keep, bytes, roll }));
     for roll in [roll, &roll[1..]] {
         for bytes in [held, &longer, &other, block, &block[1..], &r.back[..W::BLOCK_BYTES]] {
             call("begin", 0, bytes, roll);
@@ -319,7 +298,6 @@ fn try_calls<W: Word>(calls: &mut Calls, r: &Record, block: &[u8], roll: &[u8]) 
         }
         call("abandon", 0, &[], roll);
     }
-    let digest = lsh_ref::hash_from(r.chain.map(W::from_u64), r.n, held);
-    calls.close(r, roll, ACCEPTED, &receipt(r.w, r.n, &digest, 8 * r.total));
+    assert_eq!(calls.close(r, roll), ACCEPTED);
     numbers
 }

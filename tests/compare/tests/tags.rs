@@ -1,17 +1,16 @@
-//! Tags with a key against the vectors of Crypto++ and the HMAC over lsh_ref: of one message, of pieces, as they are checked, and of any
+//! Tags with a key against the vectors of Crypto++ and the HMAC of the model: of one message, of pieces, as they are checked, and of any
 //! record. Each call goes through the archive and once more through the program replay.
 
 mod forged;
-mod hmac;
-mod record;
 mod tag_calls;
 mod vector_file;
 
 use compare::{at_both_word_sizes, hand_back_all, places, Random, Record, ACCEPTED, MOST_BYTES, NO_WHOLE_BYTES};
 use forged::{forged_record, sound_records, unsound};
 use lsh_ref::Word;
-use record::record_of;
-use tag_calls::{right_finish, right_tag, Answer, Calls, Given};
+use model::tags::{hmac, inner_block, tag_of_digest};
+use model::{lsh, Answer};
+use tag_calls::{right_finish, right_tag, Calls, Given, ROOM};
 use vector_file::hexadecimal;
 
 at_both_word_sizes! {
@@ -19,8 +18,7 @@ at_both_word_sizes! {
     records_of_no_order corrections
 }
 
-/// The size of an output with room for every tag, and the largest that replay takes.
-const ROOM: usize = 64;
+/// The largest size of an output that replay takes.
 const MOST_ROOM: usize = 4096;
 
 // ---- all ways to a tag ----
@@ -39,7 +37,7 @@ fn vectors() {
         let [w, n] = [w, n].map(|number| number.parse().expect("a number"));
         let [key, message, tag] = [key, message, tag].map(bytes);
         let given = Given { w, n, key: &key, message: &message };
-        assert_eq!(right_tag(&given).as_ref(), Ok(&tag), "the HMAC over lsh_ref");
+        assert_eq!(right_tag(&given).as_ref(), Ok(&tag), "the HMAC of the model");
         try_all_ways(&mut calls, &given, &tag);
     }
     calls.end("vectors");
@@ -230,7 +228,7 @@ fn the_limit<W: Word>() {
             if number == ACCEPTED {
                 since.extend(piece);
             }
-            let tag = hmac::tag_of_digest(w, n, &key, &lsh_ref::hash_from(chain, n, &since));
+            let tag = tag_of_digest(w, n, &key, &lsh_ref::hash_from(chain, n, &since));
             try_finish(&mut calls, &key, &Ok(tag));
         }
     }
@@ -283,17 +281,17 @@ fn corrections<W: Word>() {
         let key = calls.some_bytes();
         let n = calls.tag_length(w);
         calls.start(&Given { w, n, key: &key, message: &[] });
-        let mut hashed = hmac::inner_block(w, n, &key);
+        let mut hashed = inner_block(w, n, &key);
         for _ in 0..15 {
             let length = block + calls.random.below(4 * block as u64) as usize;
             go_to::<W>(&mut calls, n, &mut hashed, length);
-            let right = Ok(hmac::tag(w, n, &key, &hashed[block..]));
+            let right = Ok(hmac(w, n, &key, &hashed[block..]));
             try_finish(&mut calls, &key, &right);
             finish_begun::<W>(&mut calls, &hashed, &key, &right);
         }
         let length = calls.random.below(block as u64) as usize;
         go_to::<W>(&mut calls, n, &mut hashed, length);
-        let right = Ok(hmac::tag_of_hashed(w, n, &key, &hashed));
+        let right = Ok(tag_of_digest(w, n, &key, &lsh::digest(w, n, &hashed)));
         try_finish(&mut calls, &key, &right);
     }
     calls.end("corrections");
@@ -307,7 +305,7 @@ fn go_to<W: Word>(calls: &mut Calls, n: u64, hashed: &mut Vec<u8>, length: usize
         hashed.extend(piece);
     } else {
         let keep = length % W::BLOCK_BYTES;
-        calls.rewind(keep as u64, &hashed[length - keep..], record_of::<W>(n, &hashed[..length]));
+        calls.rewind(keep as u64, &hashed[length - keep..], Record::of(W::BITS as u64, n, &hashed[..length]));
         hashed.truncate(length);
     }
 }

@@ -2,7 +2,7 @@
 //! through the archive and once more through the program replay.
 
 use compare::{
-    bit_length, hex, replay, Counts, Random, Sameness, ACCEPTED, DIGEST_PLACE, LENGTH_PLACE, MALFORMED, MOST_BITS,
+    bit_length, hex, Counts, Random, Sameness, Script, ACCEPTED, DIGEST_PLACE, LENGTH_PLACE, MALFORMED, MOST_BITS,
     MOST_RECEIPTS, NO_RECEIPTS, RECEIPT_BYTES,
 };
 use lsh_ref::Word;
@@ -129,17 +129,10 @@ fn right_counts(receipts: &[Receipt], malformed: Option<usize>) -> Counts {
 /// Calls of the archive as they are made, and the script that makes them once more with the answers that replay has to print.
 #[derive(Default)]
 struct Calls {
-    script: String,
-    expected: Vec<String>,
+    script: Script,
 }
 
 impl Calls {
-    fn line(&mut self, line: String, answer: String) {
-        self.script += &line;
-        self.script.push('\n');
-        self.expected.push(answer);
-    }
-
     fn tally(&mut self, receipts: &[Receipt], malformed: Option<usize>) {
         self.tally_bytes(&receipts.concat(), right_counts(receipts, malformed));
     }
@@ -148,7 +141,7 @@ impl Calls {
         assert_eq!(compare::tally(list), right);
         let Counts { number, place, firsts, reprints, blanks } = right;
         let place = if number == MALFORMED { format!(" {place}") } else { String::new() };
-        self.line(format!("tally {}", hex(list)), format!("tally {number}{place} {firsts} {reprints} {blanks}"));
+        self.script.call(format!("tally {}", hex(list)), format!("tally {number}{place} {firsts} {reprints} {blanks}"));
     }
 
     fn same(&mut self, a: &[u8], b: &[u8], number: u32, same: bool) {
@@ -158,11 +151,11 @@ impl Calls {
             (ACCEPTED, false) => " no",
             _ => "",
         };
-        self.line(format!("same {} {}", hex(a), hex(b)), format!("same {number}{verdict}"));
+        self.script.call(format!("same {} {}", hex(a), hex(b)), format!("same {number}{verdict}"));
     }
 
-    fn replay(self) {
-        assert_eq!(replay(self.script), self.expected);
+    fn replay(self, what: &str) {
+        self.script.compare(what);
     }
 }
 
@@ -188,7 +181,7 @@ fn random_lists() {
     for count in (0..40).chain([100, 500]) {
         calls.tally(&random_list(count, &mut random), None);
     }
-    calls.replay();
+    calls.replay("random lists");
 }
 
 fn shuffle(receipts: &mut [Receipt], random: &mut Random) {
@@ -225,7 +218,7 @@ fn receipts_in_any_order() {
         assert_eq!(first.firsts, choice.len() as u64);
         calls.tally_bytes(&choice.concat(), Counts { firsts: first.firsts, ..NO_COUNTS });
     }
-    calls.replay();
+    calls.replay("receipts in any order");
 }
 
 /// Every list of up to five of these: three prints, of which two differ in the length alone, and two blanks. The counts are worked out from how often
@@ -257,7 +250,7 @@ fn every_order_of_a_few_receipts() {
             calls.tally_bytes(&list.concat(), right);
         }
     }
-    calls.replay();
+    calls.replay("every order of a few receipts");
 }
 
 #[test]
@@ -273,7 +266,7 @@ fn the_most_receipts_and_one_more() {
         calls.tally(&by_length, None);
         calls.tally(&random_list(count, &mut random), None);
     }
-    calls.replay();
+    calls.replay("the most receipts and one more");
 }
 
 /// A blank is known by its length: the receipt of no bits is one, as Whole writes it and with any other digest, and the digest of no bits with
@@ -299,7 +292,7 @@ fn blanks() {
     let mut calls = Calls::default();
     try_blanks::<u32>(&mut calls, &mut random);
     try_blanks::<u64>(&mut calls, &mut random);
-    calls.replay();
+    calls.replay("blanks");
 }
 
 /// Receipts that differ in one bit alone: of the digest, of n, or of the word size.
@@ -328,7 +321,7 @@ fn receipts_that_differ_in_one_bit() {
         calls.same(&zeros, other, ACCEPTED, false);
     }
     calls.tally(&[zeros, longer, wider, zeros], None);
-    calls.replay();
+    calls.replay("receipts that differ in one bit");
 }
 
 /// Receipts that differ in the length alone, in each bit of its eight bytes: they are not the same and are counted apart, or the length is
@@ -363,7 +356,7 @@ fn receipts_that_differ_in_the_length() {
     calls.same(&most, &more, MALFORMED, false);
     calls.tally(&[most, one, most], None);
     calls.tally(&[most, more, most], Some(1));
-    calls.replay();
+    calls.replay("receipts that differ in the length");
 }
 
 #[test]
@@ -386,7 +379,7 @@ fn damaged_receipts() {
             calls.tally(&list, Some(place));
         }
     }
-    calls.replay();
+    calls.replay("damaged receipts");
 }
 
 #[test]
@@ -407,5 +400,5 @@ fn lengths_of_no_receipt() {
     }
     calls.same(&good, &good, ACCEPTED, true);
     calls.tally_bytes(&[], NO_COUNTS);
-    calls.replay();
+    calls.replay("lengths of no receipt");
 }

@@ -2,11 +2,13 @@
 
 mod receipts;
 
-use compare::{bit_length, last_byte, whole, Random, ACCEPTED, RECEIPT_BYTES};
+use compare::{at_both_word_sizes, bit_length, last_byte, whole, Random, ACCEPTED, RECEIPT_BYTES};
 use lsh_ref::Word;
 use receipts::{assert_receipt, Arguments};
 
 const MIB: usize = 1 << 20;
+
+at_both_word_sizes! { digest_lengths_and_extra_bits last_bytes message_lengths long_messages lengths_read_back }
 
 /// Compares on a random message of the given length, followed by the top e bits of `last`.
 fn compare_message<W: Word>(n: u64, message_len: usize, last: u8, e: u64, random: &mut Random) {
@@ -29,7 +31,7 @@ fn edge_lengths<W: Word>() -> Vec<usize> {
     (0..=1).chain(block - 2..=block + 2).chain(2 * block - 1..=2 * block + 1).collect()
 }
 
-fn compare_digest_lengths_and_extra_bits<W: Word>() {
+fn digest_lengths_and_extra_bits<W: Word>() {
     let mut random = Random::new(W::BITS as u64);
     for n in 1..=longest_digest::<W>() {
         for e in 0..=7 {
@@ -41,18 +43,8 @@ fn compare_digest_lengths_and_extra_bits<W: Word>() {
     }
 }
 
-#[test]
-fn digest_lengths_and_extra_bits_32() {
-    compare_digest_lengths_and_extra_bits::<u32>();
-}
-
-#[test]
-fn digest_lengths_and_extra_bits_64() {
-    compare_digest_lengths_and_extra_bits::<u64>();
-}
-
 /// Every last byte that goes with each e.
-fn compare_last_bytes<W: Word>() {
+fn last_bytes<W: Word>() {
     let mut random = Random::new(W::BITS as u64);
     for e in 0..=7 {
         for bits in 0..1 << e {
@@ -64,16 +56,6 @@ fn compare_last_bytes<W: Word>() {
     }
 }
 
-#[test]
-fn last_bytes_32() {
-    compare_last_bytes::<u32>();
-}
-
-#[test]
-fn last_bytes_64() {
-    compare_last_bytes::<u64>();
-}
-
 fn compare_random_bits<W: Word>(message_len: usize, random: &mut Random) {
     let n = random_digest_length::<W>(random);
     let e = random.below(8);
@@ -82,24 +64,14 @@ fn compare_random_bits<W: Word>(message_len: usize, random: &mut Random) {
 }
 
 /// Every length up to eight blocks.
-fn compare_message_lengths<W: Word>() {
+fn message_lengths<W: Word>() {
     let mut random = Random::new(W::BITS as u64);
     for message_len in 0..=8 * W::BLOCK_BYTES {
         compare_random_bits::<W>(message_len, &mut random);
     }
 }
 
-#[test]
-fn message_lengths_32() {
-    compare_message_lengths::<u32>();
-}
-
-#[test]
-fn message_lengths_64() {
-    compare_message_lengths::<u64>();
-}
-
-fn compare_long_messages<W: Word>() {
+fn long_messages<W: Word>() {
     let mut random = Random::new(W::BITS as u64);
     for message_len in [MIB - 1, MIB, MIB + 3, 16 * MIB + 100] {
         compare_message::<W>(longest_digest::<W>(), message_len, 0, 0, &mut random);
@@ -107,18 +79,8 @@ fn compare_long_messages<W: Word>() {
     }
 }
 
-#[test]
-fn long_messages_32() {
-    compare_long_messages::<u32>();
-}
-
-#[test]
-fn long_messages_64() {
-    compare_long_messages::<u64>();
-}
-
 /// The length is read back from the receipts of random messages, of one byte of length and of more.
-fn read_lengths_back<W: Word>() {
+fn lengths_read_back<W: Word>() {
     let mut random = Random::new(W::BITS as u64);
     for e in 0..=7 {
         for most in [16, 256, 4096, 1 << 16] {
@@ -132,14 +94,4 @@ fn read_lengths_back<W: Word>() {
             }
         }
     }
-}
-
-#[test]
-fn lengths_32() {
-    read_lengths_back::<u32>();
-}
-
-#[test]
-fn lengths_64() {
-    read_lengths_back::<u64>();
 }

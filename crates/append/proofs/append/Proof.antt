@@ -5,40 +5,38 @@ use Prim.Native.Nat.{_+_, _≤_, _<_}
 use native.Mathlib.Omega.{arith}
 use lib.ListN.{length}
 use borrow.Author.Needs.{needs}
-use borrow.Author.Tests.{lt-ltb, le-ltb, not-true, not-false}
+use borrow.Author.Tests.{lt-ltb, le-ltb}
 use Rattle.runs.specs.Limits.{limit}
 use Rattle.record.specs.Record.{sound, isBegun}
 use Rattle.record.proofs.Sound.{Sound, sounds}
+use Rattle.record.proofs.InTurn.{turn-refused, turn-passed, in-turn}
 use Rattle.append.specs.Append.{appendCall}
 use Rattle.append.proofs.append.Statement.{statement}
 use Rattle.append.proofs.append.Tie as tie
 
--- the record is sound
-sound-is : (c : tie.Else1) → sound (c .before .before .before .args .r) ≡ true
-sound-is c = sym (c .before .is-sound .ensures) ∙ not-false _ (c .if1 .left)
+-- the call is in turn
+turn-is : (c : tie.Else1) → (sound (c .before .before .before .before .args .r) ≡ true) × (isBegun (c .before .before .before .before .args .r) ≡ false)
+turn-is c = turn-passed _ (c .before .before .is-begun .ensures) (c .before .turn .ensures) (c .if1 .left)
 
-is-sound : (c : tie.Else1) → Sound (c .before .before .before .args .r)
-is-sound c = sounds (c .before .before .before .args .r) (sound-is c)
-
--- no split rewind is begun
-idle-is : (c : tie.Else2) → isBegun (c .before .before .before .before .before .args .r) ≡ false
-idle-is c = sym (c .before .is-begun .ensures) ∙ c .if2 .left
+is-sound : (c : tie.Else1) → Sound (c .before .before .before .before .args .r)
+is-sound c = sounds (c .before .before .before .before .args .r) (turn-is c .0)
 
 -- the piece does not pass the limit
-within : (c : tie.Else3) → c .before .before .before .before .before .before .args .r .total + length (c .before .before .before .before .before .before .args .piece .now) ≤ limit
+within : (c : tie.Else2) → c .before .before .before .before .before .args .r .total + length (c .before .before .before .before .before .args .piece .now) ≤ limit
 unfolding limit
-within c = omega (arith, is-sound (c .before .before .before) .few, c .if3 .left)
+within c = omega (arith, is-sound (c .before) .few, c .if2 .left)
 
-sub-if3 : tie.Need-sub-if3
+sub-if2 : tie.Need-sub-if2
 unfolding limit
-sub-if3 c = is-sound (c .before .before) .few
+sub-if2 c = is-sound c .few
 
-returns-3 : tie.Need-returns-3
+returns-2 : tie.Need-returns-2
 unfolding appendCall limit
-returns-3 c =
-    let a = c .before .before .before .before .before .before .before .args in
-    let over : limit < a .r .total + length (a .piece .now) = omega (arith, is-sound (c .before .before .before .before) .few, c .before .if3 .taken) in
-    c .refused3 .ensures ∙ rw (sound-is (c .before .before .before .before), idle-is (c .before .before), lt-ltb _ _ over)
+returns-2 c =
+    let e = c .before .before in
+    let a = e .before .before .before .before .args in
+    let over : limit < a .r .total + length (a .piece .now) = omega (arith, is-sound e .few, c .before .if2 .taken) in
+    c .refused2 .ensures ∙ sym (in-turn _ (turn-is e .0) _ (turn-is e .1) ∙ rw (lt-ltb _ _ over))
 
 pub append-spec : {M : Type 1} → statement M
 unfolding appendCall
@@ -47,12 +45,14 @@ append-spec =
     (tie.spec
     (λ c κs. search needs)
     (λ c κs. search needs)
-    (λ c. c .refused .ensures ∙ rw (sym (c .before .before .is-sound .ensures) ∙ not-true _ (c .before .if1 .taken)))
     (λ c κs. search needs)
+    (λ c.
+    let t = c .before .before in
+    c .refused .ensures ∙ turn-refused _ (t .before .is-begun .ensures) (t .turn .ensures) _ (c .before .if1 .taken))
+    sub-if2
     (λ c κs. search needs)
-    (λ c. c .refused2 .ensures ∙ rw (sound-is (c .before .before .before), sym (c .before .before .is-begun .ensures) ∙ c .before .if2 .taken))
-    sub-if3
-    (λ c κs. search needs)
-    returns-3
-    (λ c κs. (sound-is (c .before .before .before), within c))
-    (λ c. c .accepted .ensures ∙ rw (sound-is (c .before .before .before .before), idle-is (c .before .before), le-ltb _ _ (within (c .before)))))
+    returns-2
+    (λ c κs. (turn-is (c .before) .0, within c))
+    (λ c.
+    let e = c .before .before in
+    c .accepted .ensures ∙ sym (in-turn _ (turn-is e .0) _ (turn-is e .1) ∙ rw (le-ltb _ _ (within (c .before))))))

@@ -15,8 +15,8 @@ words z = search needs
 long : (z : tie.Start) → length (z .args .r .held) ≡ longestBlock
 long z = search needs
 
-take-whole-requires : tie.Need-take-whole-requires
-take-whole-requires c κs =
+absorb-requires : tie.Need-absorb-requires
+absorb-requires c κs =
     let z = c .before .before in
     let s = sounds (z .args .r) (z .pre .0) in
     (s .word, chain-is _ _ (s .word) (words z) (s .below))
@@ -28,8 +28,8 @@ add-r c = record { fits = omega (arith, c .before .before .before .before .befor
 returns : tie.Need-returns
 returns c =
     let z = c .before .before .before .before .before .before in
-    let t = c .before .before .before .take-whole in
+    let t = c .before .before .before .absorb in
     rw (t .ensures .0, t .ensures .1, t .ensures .2) (sym (even (z .args .r) (z .pre .0) (long z) (z .args .piece .now) (z .pre .2)))
 
 pub append-even-spec : {M : Type 1} → statement M
-append-even-spec = tie.close (tie.spec take-whole-requires add-r returns)
+append-even-spec = tie.close (tie.spec absorb-requires add-r returns)

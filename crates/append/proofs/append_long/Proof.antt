@@ -68,8 +68,8 @@ first-long c = search needs
 block-in : (c : tie.After-put) → c .before .before .before .block-bytes .result ≤ length (c .put .result)
 block-in c = omega (arith, first-long c, size-most (c .before .before))
 
-take-whole-requires : tie.Need-take-whole-requires
-take-whole-requires c κs =
+absorb-requires : tie.Need-absorb-requires
+absorb-requires c κs =
     let z = Z (c .before .before .before .before .before .before) in (
       is-sound z .word,
       subst (Chain (sizeOf (R z .w))) (sym (c .before .before .forward .ensures .0))
@@ -90,7 +90,7 @@ add-t24 c =
       fits =
           omega (
             arith,
-            c .before .before .before .before .take-whole .ensures .1 ∙ ap (λ (s : List ℕ). length s / B) (from-place (P z) (k a)),
+            c .before .before .before .before .absorb .ensures .1 ∙ ap (λ (s : List ℕ). length s / B) (from-place (P z) (k a)),
             length-drop (k a) (P z),
             div-le-self (length (drop (k a) (P z))) B,
             z .pre .1,
@@ -101,7 +101,7 @@ returns : tie.Need-returns
 returns c =
     let a = c .before .before .before .before .before .before .before .before .before .before .before in
     let z = Z a in
-    let t = c .before .before .before .before .take-whole in
+    let t = c .before .before .before .before .absorb in
     let f = c .before .before .before .before .before .before .before .forward in
     let u = c .before .before .before .before .before .before .before .before .before .put in
     rw (
@@ -132,7 +132,7 @@ append-long-spec =
     (λ c. search needs)
     (λ c. search needs)
     (λ c. search needs)
-    take-whole-requires
+    absorb-requires
     add-r
     add-t24
     returns)

@@ -16,11 +16,10 @@ use Rattle.record.specs.Record.{heldOf, sound}
 use Rattle.record.proofs.Sound.{Sound, sounds}
 use Rattle.append.specs.Append.{appended}
 use Rattle.checkpoints.specs.Roll.{checkpoints}
-use Rattle.checkpoints.specs.Checkpoints.{laid}
 use Rattle.checkpoints.proofs.Form.{roll-of}
 use Rattle.checkpoints.proofs.Spacing.{step}
-use Rattle.append_roll.proofs.Answers.{Accepted, accepted, goal-of, accepted-roll}
-use Rattle.append_roll.proofs.Parts.{due-after, Parted, so-far-sound, none-reached, first-room, first-parted, first-rest, chain-ok, count-few, next-room, parted-more, parted-roll, parted-end, order-there}
+use Rattle.append_roll.proofs.Answers.{Accepted, accepted, goal-of, accepted-call}
+use Rattle.append_roll.proofs.Parts.{laid-at, due-after, Parted, so-far-sound, none-reached, first-room, first-parted, first-rest, chain-ok, count-few, next-room, parted-more, parted-roll, parted-end, order-there}
 use Rattle.append_roll.proofs.append_parts.Statement.{statement}
 use Rattle.append_roll.proofs.append_parts.Tie as tie
 
@@ -96,8 +95,8 @@ module _ (l : tie.At-loop Inv-loop μ-loop) where
   step-is : Q ≡ step (R from-start .w)
   step-is = l .before .before .before .before .before .before .between-checkpoints .ensures
 
-  laid-first : l .before .before .before .first-part .last .1 .1 .0 ≡ laid (sizeOf (R from-start .w)) (appended (R from-start) (take (first entered) (P from-start)) .chain) (S from-start)
-  laid-first = l .before .before .before .first-part .ensures .2
+  laid-first : l .before .before .before .first-part .last .1 .1 .0 ≡ laid-at (R from-start) (P from-start) (first entered) (S from-start)
+  laid-first = l .before .before .before .first-part .ensures .2 _
 
   rest-first : (length (l .before .before .before .first-part .last .1 .1 .0) ≡ length (S from-start))
       × (due-after (R from-start) (P from-start) (first entered) (l .before .before .before .first-part .last .1 .1 .0) ≡ goal-of (R from-start) (P from-start) (S from-start))
@@ -136,17 +135,17 @@ next-part-requires c κs =
     let z = start-of i in
     let p = i .before .loop .inv in (
       is z .word,
-      chain-ok (R z) (P z) (pass z .taken) (words z) (long z) (S z) (pass z) (rest-first (i .before) .0) p,
+      chain-ok (R z) (P z) (pass z .taken) (words z) (long z) (S z) (pass z) p,
       omega (
         arith,
-        count-few (R z) (P z) (pass z .taken) (words z) (long z) (S z) (pass z) (rest-first (i .before) .0) p,
+        count-few (R z) (P z) (pass z .taken) (words z) (long z) (S z) (pass z) p,
         given-length i,
         reaches-step i,
         pass z .within,
       ),
       p .stage .form,
       p .way,
-      next-room (R z) (P z) (pass z .taken) (words z) (long z) (S z) (pass z) (rest-first (i .before) .0) p (reaches-step i),
+      next-room (R z) (P z) (pass z .taken) (words z) (long z) (S z) (pass z) p (reaches-step i),
     )
 
 loop-again : tie.Need-loop-again Inv-loop μ-loop
@@ -155,7 +154,7 @@ loop-again c =
     let i = n .before .before .before in
     let z = start-of i in
     let e = n .next-part .ensures in
-    parted-more (R z) (P z) (pass z .taken) (words z) (long z) (S z) (pass z) (rest-first (i .before) .0) (i .before .loop .inv) (reaches-step i) (given i) (is-part i)
+    parted-more (R z) (P z) (pass z .taken) (words z) (long z) (S z) (pass z) (i .before .loop .inv) (reaches-step i) (given i) (is-part i)
     (ap (λ (q : ℕ). A i + q) (step-is (i .before))) (e .0) (e .1) (e .2) (e .3)
 
 -- the rest
@@ -184,7 +183,7 @@ last-part-requires c κs =
       omega (arith, ap length (rest-is l), length-drop (E l) (P z), p .stage .upTo, pass z .within),
       omega (
         arith,
-        count-few (R z) (P z) (pass z .taken) (words z) (long z) (S z) (pass z) (rest-first (l .before) .0) p,
+        count-few (R z) (P z) (pass z .taken) (words z) (long z) (S z) (pass z) p,
         p .stage .upTo,
         pass z .within,
       ),
@@ -201,9 +200,9 @@ returns-2 c =
     let made : Record = record { w = R z .w; n = R z .n; total = R z .total + E l; chain = l .before .loop .p .chain; held = heldOf []; split = R z .split } in
     let less : length (P z) < E l + step (R z .w) = omega (arith, p .stage .upTo, step-is (l .before)) in (
       c .last-part .ensures made refl
-          ∙ parted-end (R z) (P z) (pass z .taken) (words z) (long z) (S z) (pass z) (rest-first (l .before) .0) p _ (rest-is l) (there l made refl),
-      parted-roll (R z) (P z) (pass z .taken) (words z) (long z) (S z) (pass z) (rest-first (l .before) .0) p less
-          ∙ rest-first (l .before) .1 ∙ accepted-roll (R z) (P z) (S z) (sym (z .pre .0)) refl,
+          ∙ parted-end (R z) (P z) (pass z .taken) (words z) (long z) (S z) (pass z) p _ (rest-is l) (there l made refl),
+      parted-roll (R z) (P z) (pass z .taken) (words z) (long z) (S z) (pass z) p less
+          ∙ rest-first (l .before) .1 ∙ accepted-call (R z) (P z) (S z) (sym (z .pre .0)) refl .1,
     )
 
 pub append-parts-spec : {M : Type 1} → statement M
@@ -219,7 +218,7 @@ append-parts-spec =
     let z = t .before .before .before in (
       c .accepted .ensures,
       none-reached (R z) (P z) (pass z .taken) (words z) (long z) (S z) (pass z) _ (t .to-checkpoint .ensures) (c .before .if1 .taken)
-          ∙ accepted-roll (R z) (P z) (S z) (sym (z .pre .0)) refl,
+          ∙ accepted-call (R z) (P z) (S z) (sym (z .pre .0)) refl .1,
     ))
     (λ c κs. tt)
     (λ c. sym (first-length (c .before .before)))
@@ -228,7 +227,7 @@ append-parts-spec =
     let e = c .before .before .before .before .before .before in
     let z = begun e in
     let f = c .before .before .first-part .ensures in
-    first-parted (R z) (P z) (pass z .taken) (words z) (long z) (S z) (pass z) (first e) (next e) (le e) (f .0) (f .1) (f .2) (f .3))
+    first-parted (R z) (P z) (pass z .taken) (words z) (long z) (S z) (pass z) (first e) (next e) (le e) (f .0) (f .1) (f .2 _) (f .3))
     (λ c. c .loop .inv .stage .upTo)
     (λ c. record { fits = omega (arith, reaches c) })
     (λ c. omega arith)

@@ -25,7 +25,7 @@ append-roll-spec =
     (λ c.
     let p = c .before .before in
     let a = p .before .before .before in (
-      p .append-parts .ensures .0 ∙ accepted-call _ _ _ (a .answer .ensures _ (a .before .walk .ensures)) (p .before .before .if1 .left),
+      p .append-parts .ensures .0 ∙ accepted-call _ _ _ (a .answer .ensures _ (a .before .walk .ensures)) (p .before .before .if1 .left) .0,
       p .append-parts .ensures .1,
       free-choice,
     )))

@@ -48,6 +48,6 @@ first-part-spec =
     let l = c .before .before in (
       ap (λ (o : Record). o .chain) (next-is a),
       ap (λ (o : Outcome). o .count) (a .accepted .ensures),
-      l .lay .ensures .0 ∙ ap (λ (o : Record). laid (sizeOf (z .args .r .w)) (o .chain) (z .args .roll .now)) (next-is a),
+      λ k. l .lay .ensures .0 k ∙ ap (λ (o : Record). laid (sizeOf (z .args .r .w)) (record { number = k; chain = o .chain }) (z .args .roll .now)) (next-is a),
       l .lay .ensures .1,
     )))

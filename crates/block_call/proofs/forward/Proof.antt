@@ -1,21 +1,24 @@
--- `block_call::forward` meets its contract, by the answer and w. Assumes nothing.
-use mathlib.Core.Path.{sym, _∙_}
+-- `block_call::forward` meets its contract: a run of one block. Assumes nothing.
+use mathlib.Core.Path.{_≡_, refl, sym, _∙_}
 use borrow.Author.Needs.{needs}
-use Rattle.lsh.specs.Block.{forward}
-use Rattle.lsh.proofs.Figures.{size-32, size-64}
-use Rattle.block_call.proofs.Answers.{accepted, lengths, refused-run, accepted-run}
+use lib.ListN.{length}
+use Rattle.lsh.specs.Block.{forward, forwards}
+use Rattle.answers.proofs.Output.{refused-output}
+use Rattle.block_call.specs.BlockCall.{blockAnswer, runBytes}
+use Rattle.block_call.proofs.Answers.{accepted, one-run}
 use Rattle.block_call.proofs.forward.Statement.{statement}
 use Rattle.block_call.proofs.forward.Tie as tie
 
+took : (c : tie.Else1) → let z = c .before .before .before .before in blockAnswer (z .args .w) (length (z .args .chain .now)) (length (z .args .block .now)) ≡ 0
+took c = sym (c .before .answer .ensures) ∙ c .if1 .left
+
 pub forward-spec : {M : Type 1} → statement M
+unfolding runBytes forward forwards
 forward-spec =
     tie.close
     (tie.spec
     (λ c κs. search needs)
-    (λ c. refused-run forward _ _ _ (c .before .answer .ensures) (c .if1 .taken))
-    (λ c κs. lengths _ _ _ (sym (c .before .before .before .answer .ensures) ∙ c .before .before .if1 .left) (size-32 (c .before .if2 .taken)))
+    (λ c. refused-output _ _ _ (c .before .before .before .before .args .chain .now) (c .before .answer .ensures) (c .if1 .taken))
+    (λ c κs. let ok = accepted _ _ _ (took (c .before)) in (ok .size, ok .chain))
     (λ c. search needs)
-    (λ c. accepted-run forward _ _ _ (sym (c .before .before .before .before .before .before .answer .ensures) ∙ c .before .before .before .before .before .if1 .left) (size-32 (c .before .before .before .before .if2 .taken)) (c .before .before .forward256 .ensures))
-    (λ c κs. lengths _ _ _ (sym (c .before .before .before .answer .ensures) ∙ c .before .before .if1 .left) (size-64 _ (accepted _ _ _ (sym (c .before .before .before .answer .ensures) ∙ c .before .before .if1 .left) .size) (c .before .if2 .left)))
-    (λ c. search needs)
-    (λ c. accepted-run forward _ _ _ (sym (c .before .before .before .before .before .before .answer .ensures) ∙ c .before .before .before .before .before .if1 .left) (size-64 _ (accepted _ _ _ (sym (c .before .before .before .before .before .before .answer .ensures) ∙ c .before .before .before .before .before .if1 .left) .size) (c .before .before .before .before .if2 .left)) (c .before .before .forward512 .ensures)))
+    (λ c. one-run forward forwards _ _ _ (λ b t. refl) (took (c .before .before .before .before)) (c .before .before .forward-bytes .ensures)))

@@ -1,12 +1,18 @@
 -- `close::close` meets its contract, by the answer. Assumes nothing.
-use mathlib.Core.Path.{sym, _∙_}
+use mathlib.Core.Path.{sym, ap, _∙_}
+use mathlib.Core.Bool.{Bool}
+use mathlib.Core.List.{List}
+use Prim.Native.Nat.{_+_, _*_}
 use native.Mathlib.Omega.{arith}
 use lib.ListN.{length}
 use borrow.Author.Needs.{needs}
 use Rattle.runs.specs.Limits.{limit}
 use Rattle.record.proofs.Sound.{Sound, sounds}
 use Rattle.runs.proofs.Limits.{digest-most}
-use Rattle.close.proofs.Answers.{Accepted, accepted, refused-output, accepted-output}
+use Rattle.answers.proofs.Output.{refused-output, written-output}
+use Rattle.finalization.specs.Receipt.{receipt}
+use Rattle.close.specs.Close.{closeOutput}
+use Rattle.close.proofs.Answers.{Accepted, accepted}
 use Rattle.close.proofs.close.Statement.{statement}
 use Rattle.close.proofs.close.Tie as tie
 
@@ -18,7 +24,7 @@ passed c =
     accepted (a .r) (a .last) (a .e) (length (a .output .now)) (sym (c .before .answer .ensures) ∙ c .if1 .left)
 
 is-sound : (c : tie.Else1) → Sound (c .before .before .before .args .r)
-is-sound c = sounds (c .before .before .before .args .r) (passed c .taken)
+is-sound c = sounds (c .before .before .before .args .r) (passed c .soundRecord)
 
 write-receipt-requires : tie.Need-write-receipt-requires
 write-receipt-requires c κs =
@@ -28,25 +34,27 @@ write-receipt-requires c κs =
     (s .word, digest-most (r .w) (r .n) (s .digestLength), c .before .final-chain .ensures .0, passed p .end .room)
 
 returns-2 : tie.Need-returns-2
+unfolding closeOutput
 returns-2 c =
     let p = c .before .before .before .before .before .before in
     let z = p .before .before .before in
-    accepted-output (z .args .r) (z .args .last) (z .args .e) (z .args .output .now)
+    let r = z .args .r in
+    written-output _ _ _ (z .args .output .now)
     (sym (p .before .answer .ensures) ∙ p .if1 .left)
-    (c .before .before .before .before .final-chain .ensures .1)
+    (ap (λ (d : List Bool). receipt (r .w) (r .n) d (8 * r .total + z .args .e)) (c .before .before .before .before .final-chain .ensures .1))
     (c .before .before .write-receipt .ensures)
 
 pub close-spec : {M : Type 1} → statement M
-unfolding limit
+unfolding limit closeOutput
 close-spec =
     tie.close
     (tie.spec
     (λ c κs. search needs)
-    (λ c. refused-output (c .before .before .before .args .r) _ _ (c .before .before .before .args .output .now) (c .before .answer .ensures) (c .if1 .taken))
+    (λ c. refused-output _ _ _ (c .before .before .before .args .output .now) (c .before .answer .ensures) (c .if1 .taken))
     (λ c. omega (arith, is-sound (c .before) .few))
     (λ c. omega (arith, is-sound (c .before) .few, passed (c .before) .end .extra))
     (λ c. record { fits = omega (arith, passed (c .before) .end .extra) })
-    (λ c κs. (passed (c .before) .taken, passed (c .before) .end .extra, passed (c .before) .end .low))
+    (λ c κs. (passed (c .before) .soundRecord, passed (c .before) .end .extra, passed (c .before) .end .low))
     write-receipt-requires
     (λ c. search needs)
     returns-2)

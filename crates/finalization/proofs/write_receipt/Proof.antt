@@ -22,10 +22,10 @@ inside c =
     let long : length (c .before .before .before .before .before .digest-bytes .result) ≡ longestBlock = search needs in
     omega (arith, few (c .before .before .before .before .before .before .before))
 
-taken : (c : tie.After-put-arg)
+digest-size : (c : tie.After-put-arg)
     → length (take ((c .before .before .before .before .before .before .before .args .n + 7) / 8) (c .before .before .before .before .before .digest-bytes .result))
     ≡ (c .before .before .before .before .before .before .before .args .n + 7) / 8
-taken c = length-take-le _ _ (inside c)
+digest-size c = length-take-le _ _ (inside c)
 
 -- zeros in the places of a receipt
 cleared : (c : tie.After-fill)
@@ -38,9 +38,9 @@ cleared c =
     ap (λ (s : List ℕ). s ++ drop receiptBytes m) (c .fill .ensures ∙ ap (λ (k : ℕ). replicate {A = ℕ} k 0) (length-take-le receiptBytes m (z .pre .3)))
 
 -- the output is as long as it was
-kept : (c : tie.After-fill)
+same-length : (c : tie.After-fill)
     → length (c .fill .last .0 ++ drop receiptBytes (c .before .before .before .before .args .output .now)) ≡ length (c .before .before .before .before .args .output .now)
-kept c =
+same-length c =
     let z = c .before .before .before .before in
     let m = z .args .output .now in
     ap length (cleared c)
@@ -49,7 +49,7 @@ kept c =
 
 stored : (c : tie.After-put) → length (c .put .last .0) ≡ length (c .before .before .before .before .before .before .before .before .before .args .output .now)
 unfolding receiptBytes
-stored c = ap length (c .put .ensures .1) ∙ simp (length-sets, length-set) (kept (c .before .before .before .before .before))
+stored c = ap length (c .put .ensures .1) ∙ simp (length-sets, length-set) (same-length (c .before .before .before .before .before))
 
 pub write-receipt-spec : {M : Type 1} → statement M
 unfolding receiptBytes
@@ -62,16 +62,16 @@ write-receipt-spec =
     (λ c. sym (length-take-le receiptBytes (c .before .before .before .args .output .now) (c .before .before .before .pre .3)))
     (λ c κs. search needs)
     (λ c. omega (arith, word-most _ (c .before .before .before .before .before .before .pre .0)))
-    (λ c. omega (arith, kept (c .before .before), c .before .before .before .before .before .before .pre .3))
+    (λ c. omega (arith, same-length (c .before .before), c .before .before .before .before .before .before .pre .3))
     (λ c. omega arith)
-    (λ c. rw length-set (omega (arith, kept (c .before .before), c .before .before .before .before .before .before .pre .3)))
+    (λ c. rw length-set (omega (arith, same-length (c .before .before), c .before .before .before .before .before .before .pre .3)))
     (λ c. omega (arith, few (c .before .before .before .before .before .before)))
-    (λ c. simp length-set (omega (arith, kept (c .before .before), c .before .before .before .before .before .before .pre .3)))
+    (λ c. simp length-set (omega (arith, same-length (c .before .before), c .before .before .before .before .before .before .pre .3)))
     inside
-    (λ c. sym (taken (c .before)))
+    (λ c. sym (digest-size (c .before)))
     (λ c κs.
     let z = c .before .before .before .before .before .before .before .before in
-    simp length-set (omega (arith, kept (c .before .before .before .before), taken (c .before), few z, z .pre .3)))
+    simp length-set (omega (arith, same-length (c .before .before .before .before), digest-size (c .before), few z, z .pre .3)))
     (λ c κs. rw (stored (c .before .before .before)) (c .before .before .before .before .before .before .before .before .before .before .before .before .pre .3))
     (λ c. omega (arith, stored (c .before .before .before .before .before .before)))
     (λ c.

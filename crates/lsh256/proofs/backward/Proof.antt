@@ -1,5 +1,5 @@
 -- `lsh256::backward` meets its contract. Assumes nothing.
-use mathlib.Core.Path.{_≡_, refl, sym, ap, _∙_}
+use mathlib.Core.Path.{_≡_, sym, _∙_}
 use Prim.Native.Nat.{_-_, _/_}
 use native.Mathlib.Omega.{arith}
 use borrow.Author.Needs.{needs}
@@ -11,10 +11,10 @@ use Rattle.lsh256.proofs.backward.Statement.{statement}
 use Rattle.lsh256.proofs.backward.Tie as tie
 
 abbrev Inv-loop : tie.InvT-loop
-Inv-loop s sc m₀ left₀ c₀ count₀ m left c count = RunBackward lsh256 (length s / blockBytes lsh256) s c₀ c count left × (length m ≡ expandedWords lsh256)
+Inv-loop steps s sc m₀ left₀ c₀ count₀ m left c count = RunBackward lsh256 steps (length s / blockBytes lsh256) s c₀ c count left × (length m ≡ expandedWords lsh256)
 
 abbrev μ-loop : tie.MeasureT-loop
-μ-loop s sc m₀ left₀ c₀ count₀ m left c count = left
+μ-loop steps s sc m₀ left₀ c₀ count₀ m left c count = left
 
 pub backward-spec : {M : Type 1} → statement M
 unfolding lsh256 blockBytes expandedWords
@@ -25,7 +25,7 @@ backward-spec =
     μ-loop
     (λ c κs. search needs)
     (λ c κs. search needs)
-    (λ c. (run-backward-none lsh256 _ _ _, search needs))
+    (λ c. (run-backward-none lsh256 _ _ _ _, search needs))
     (λ c. omega arith)
     (λ c. omega arith)
     (λ c. omega arith)
@@ -33,7 +33,7 @@ backward-spec =
     (λ c. omega arith)
     (λ c. omega arith)
     (λ c. omega arith)
-    (λ c κs. (c .before .before .before .before .before .before .step-constants .ensures, c .before .before .before .before .loop .inv .1, length-part lsh256 (c .before .before .before .before .before .before .before .before .args .s .now) (c .before .before .before .before .loop .left - 1) (omega arith)))
+    (λ c κs. (c .before .before .before .before .before .before .step-constants .ensures, c .before .before .before .before .loop .inv .1, c .before .before .before .before .before .before .before .before .pre .0, c .before .before .before .before .before .before .before .before .pre .1, length-part lsh256 (c .before .before .before .before .before .before .before .before .args .s .now) (c .before .before .before .before .loop .left - 1) (omega arith)))
     (λ c. omega arith)
     (λ c. omega arith)
     (λ c. (run-backward-more _ (c .before .before .before .before .before .before .loop .inv .0) (c .before .before .before .before .before .loop-test .taken) (c .before .backward-block .ensures), c .before .backward-block .kept .1 .0 ∙ c .before .before .before .before .before .before .loop .inv .1))

@@ -6,22 +6,22 @@ use borrow.Author.Needs.{needs}
 use lib.ListN.{length, take}
 use Rattle.lsh.specs.WordSize.{lsh256}
 use Rattle.lsh.specs.Expansion.{subMessage}
-use Rattle.engine.specs.Rows.{expandedWords}
-use Rattle.engine.proofs.Rows.{Expanded, sub-next, expanded-none, expanded-more, expanded-all}
+use Rattle.engine.specs.Rows.{expandedWords, Expanded}
+use Rattle.engine.proofs.Rows.{sub-next, expanded-none, expanded-more, expanded-upTo}
 use Rattle.lsh256.proofs.expand.Statement.{statement}
 use Rattle.lsh256.proofs.expand.Tie as tie
 
 abbrev Inv-loop : tie.InvT-loop
-Inv-loop m₀ p₀ j₀ m p j = Expanded lsh256 (take 32 m₀) m (j + 1) × (p ≡ subMessage lsh256 (take 32 m₀) (j + 1)) × (length m₀ ≡ expandedWords lsh256)
+Inv-loop m₀ steps p₀ j₀ j-end m p j = Expanded lsh256 (take 32 m₀) m (j + 1) × (p ≡ subMessage lsh256 (take 32 m₀) (j + 1)) × (length m₀ ≡ expandedWords lsh256)
 
 abbrev μ-loop : tie.MeasureT-loop
-μ-loop m₀ p₀ j₀ m p j = lsh256 .steps - 1 - j
+μ-loop m₀ steps p₀ j₀ j-end m p j = j-end - j
 
 -- before the first turn M_0 and M_1 stand in their rows
 holds : tie.Need-loop-holds Inv-loop μ-loop
 unfolding lsh256 expandedWords
 holds c =
-    let given = c .before .before .before .pre in
+    let given = c .before .before .before .pre .0 in
     let first = expanded-none lsh256 (c .before .before .before .args .m .now) given (omega arith) in
     (first, c .sub-message .ensures ∙ first .rows 1 (omega arith), given)
 
@@ -40,7 +40,8 @@ expand-spec =
     (tie.spec
     Inv-loop
     μ-loop
-    (λ c κs. (c .before .before .pre, omega arith))
+    (λ c κs. (c .before .before .pre .0, omega arith))
+    (λ c. omega arith)
     holds
     (λ c κs. (c .before .before .loop .inv .0 .len, omega arith))
     (λ c κs. search needs)
@@ -50,4 +51,4 @@ expand-spec =
     (λ c. omega arith)
     again
     (λ c. c .before .loop .inv .0 .len ∙ sym (c .before .loop .inv .2))
-    (λ c. expanded-all (c .before .loop .inv .0) (omega arith)))
+    (λ c. expanded-upTo (c .before .loop .inv .0) (omega arith)))

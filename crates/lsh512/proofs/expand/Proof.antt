@@ -6,22 +6,22 @@ use borrow.Author.Needs.{needs}
 use lib.ListN.{length, take}
 use Rattle.lsh.specs.WordSize.{lsh512}
 use Rattle.lsh.specs.Expansion.{subMessage}
-use Rattle.engine.specs.Rows.{expandedWords}
-use Rattle.engine.proofs.Rows.{Expanded, sub-next, expanded-none, expanded-more, expanded-all}
+use Rattle.engine.specs.Rows.{expandedWords, Expanded}
+use Rattle.engine.proofs.Rows.{sub-next, expanded-none, expanded-more, expanded-upTo}
 use Rattle.lsh512.proofs.expand.Statement.{statement}
 use Rattle.lsh512.proofs.expand.Tie as tie
 
 abbrev Inv-loop : tie.InvT-loop
-Inv-loop m₀ q₀ p₀ j₀ m q p j = Expanded lsh512 (take 32 m₀) m (j + 1) × (p ≡ subMessage lsh512 (take 32 m₀) (j + 1)) × (q ≡ subMessage lsh512 (take 32 m₀) j) × (length m₀ ≡ expandedWords lsh512)
+Inv-loop m₀ steps q₀ p₀ j₀ j-end m q p j = Expanded lsh512 (take 32 m₀) m (j + 1) × (p ≡ subMessage lsh512 (take 32 m₀) (j + 1)) × (q ≡ subMessage lsh512 (take 32 m₀) j) × (length m₀ ≡ expandedWords lsh512)
 
 abbrev μ-loop : tie.MeasureT-loop
-μ-loop m₀ q₀ p₀ j₀ m q p j = lsh512 .steps - 1 - j
+μ-loop m₀ steps q₀ p₀ j₀ j-end m q p j = j-end - j
 
 -- before the first turn M_0 and M_1 stand in their rows
 holds : tie.Need-loop-holds Inv-loop μ-loop
 unfolding lsh512 expandedWords
 holds c =
-    let given = c .before .before .before .before .before .pre in
+    let given = c .before .before .before .before .before .pre .0 in
     let first = expanded-none lsh512 (c .before .before .before .before .before .args .m .now) given (omega arith) in
     (first, c .sub-message2 .ensures ∙ first .rows 1 (omega arith), c .before .before .sub-message .ensures ∙ first .rows 0 (omega arith), given)
 
@@ -40,8 +40,9 @@ expand-spec =
     (tie.spec
     Inv-loop
     μ-loop
-    (λ c κs. (c .before .before .pre, omega arith))
-    (λ c κs. (c .before .before .before .before .pre, omega arith))
+    (λ c κs. (c .before .before .pre .0, omega arith))
+    (λ c κs. (c .before .before .before .before .pre .0, omega arith))
+    (λ c. omega arith)
     holds
     (λ c κs. search needs)
     (λ c. omega arith)
@@ -50,4 +51,4 @@ expand-spec =
     (λ c. omega arith)
     again
     (λ c. c .before .loop .inv .0 .len ∙ sym (c .before .loop .inv .3))
-    (λ c. expanded-all (c .before .loop .inv .0) (omega arith)))
+    (λ c. expanded-upTo (c .before .loop .inv .0) (omega arith)))

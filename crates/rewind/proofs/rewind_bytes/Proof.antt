@@ -8,7 +8,7 @@ use Rattle.lsh.specs.WordSize.{sizeOf, blockBytes}
 use Rattle.lsh.specs.Block.{Chain}
 use Rattle.record.specs.declared.Record.{Record}
 use Rattle.record.proofs.Sound.{Sound, sounds, chain-is}
-use Rattle.rewind.specs.Rewind.{reached, rewindCall}
+use Rattle.rewind.specs.Rewind.{reached, rewindInTurn}
 use Rattle.rewind.proofs.Lengths.{OnBlock, on-block, keeps-few, fill-le}
 use Rattle.rewind.proofs.rewind_bytes.Statement.{statement}
 use Rattle.rewind.proofs.rewind_bytes.Tie as tie
@@ -33,13 +33,13 @@ module _ (z : tie.Start) where
   chain = chain-is (R .w) (R .chain) (is-sound .word) words (is-sound .below)
 
   on : OnBlock B (R .total) (length H)
-  on = on-block B (R .total) (length H) (z .pre .2)
+  on = on-block B (R .total) (length H) (z .pre .1)
 
   few : (z .args .keep ≤ length H) × (z .args .keep < B)
-  few = keeps-few B (z .args .keep) (length H) (z .pre .3)
+  few = keeps-few B (z .args .keep) (length H) (z .pre .2)
 
 pub rewind-bytes-spec : {M : Type 1} → statement M
-unfolding rewindCall reached
+unfolding rewindInTurn reached
 rewind-bytes-spec =
     tie.close
     (tie.spec
@@ -47,7 +47,7 @@ rewind-bytes-spec =
     (λ c κs. search needs)
     (λ c.
     let z = c .before .before .before .before in
-    c .refused .ensures ∙ rw (z .pre .0, z .pre .1, z .pre .2, z .pre .3, sym (c .before .before .held-differs .ensures) ∙ c .before .if1 .taken))
+    c .refused .ensures ∙ rw (z .pre .1, z .pre .2, sym (c .before .before .held-differs .ensures) ∙ c .before .if1 .taken))
     (λ c κs. let z = c .before .before .before .before in (is-sound z .word, chain z))
     (λ c κs.
     let z = c .before .before .before .before .before .before in
@@ -55,12 +55,10 @@ rewind-bytes-spec =
     (λ c.
     let z = c .before .before .before .before .before .before .before in
     let e = c .before .before .before .before in
-    c .wound-back .ensures
+    c .cut .ensures
     ∙ rw (
       c .before .before .backward .ensures .0,
-      z .pre .0,
       z .pre .1,
       z .pre .2,
-      z .pre .3,
       sym (e .before .held-differs .ensures) ∙ e .if1 .left,
     )))

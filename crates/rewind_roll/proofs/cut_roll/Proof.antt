@@ -1,19 +1,22 @@
 -- `rewind_roll::cut_roll` meets its contract, by the answer. Assumes nothing.
-use mathlib.Core.Path.{ap, _∙_}
+use mathlib.Core.Path.{sym, ap, _∙_}
 use Prim.Native.Nat.{ℕ}
 use borrow.Author.Needs.{needs}
 use Rattle.lsh.specs.WordSize.{sizeOf}
 use Rattle.checkpoints.specs.Checkpoints.{unlinked}
+use Rattle.checkpoints.proofs.InTurn.{roll-stays}
 use Rattle.roll.proofs.Walked.{way-count}
-use Rattle.rewind_roll.proofs.Rewinding.{roll-stays, roll-cut}
+use Rattle.rewind_roll.specs.RewindRoll.{cutRoll}
+use Rattle.rewind_roll.proofs.Rewinding.{roll-cut}
 use Rattle.rewind_roll.proofs.cut_roll.Statement.{statement}
 use Rattle.rewind_roll.proofs.cut_roll.Tie as tie
 
 pub cut-roll-spec : {M : Type 1} → statement M
+unfolding cutRoll
 cut-roll-spec =
     tie.close
     (tie.spec
-    (λ c. let z = c .before .before .before in roll-stays (z .args .w) (z .args .o) (z .args .roll .now) (c .if1 .taken))
+    (λ c. sym (roll-stays _ _ _ (c .if1 .taken)))
     (λ c κs. search needs)
     (λ c κs.
     let z = c .before .before .before .before .before .before in

@@ -1,15 +1,14 @@
 -- `rewind_roll::rewind_roll` meets its contract. Assumes nothing.
-use mathlib.Core.Path.{sym, ap, _∙_}
+use mathlib.Core.Path.{ap, _∙_}
 use borrow.Author.Needs.{needs}
 use Rattle.record.specs.declared.Outcome.{Outcome}
-use Rattle.checkpoints.proofs.Form.{roll-of}
-use Rattle.rewind_roll.specs.RewindRoll.{cutRoll, rewoundRoll}
-use Rattle.rewind_roll.proofs.Rewinding.{is-roll-of}
+use Rattle.rewind_roll.specs.RewindRoll.{cutRoll, rewindRollCall, rewoundRoll}
+use Rattle.rewind_roll.proofs.Rewinding.{accepted-roll}
 use Rattle.rewind_roll.proofs.rewind_roll.Statement.{statement}
 use Rattle.rewind_roll.proofs.rewind_roll.Tie as tie
 
 pub rewind-roll-spec : {M : Type 1} → statement M
-unfolding rewoundRoll
+unfolding rewindRollCall rewoundRoll
 rewind-roll-spec =
     tie.close
     (tie.spec
@@ -18,10 +17,10 @@ rewind-roll-spec =
     (λ c κs.
     let o = c .before in
     let y = o .before .walk .ensures in
-    (y, λ e. roll-of _ _ (is-roll-of _ _ _ _ (sym (ap (λ (x : Outcome). x .number) (o .outcome .ensures _ y)) ∙ e)) .0))
+    (y, accepted-roll _ _ _ _ (o .rewound .ensures _ y)))
     (λ c. search needs)
     (λ c.
     let z = c .before .before .before .before .before .before .before .before .before in
     let o = c .before .before .before .before in
-    let is = o .outcome .ensures _ (o .before .walk .ensures) in
+    let is = o .rewound .ensures _ (o .before .walk .ensures) in
     (is, c .before .before .cut-roll .ensures ∙ ap (λ (x : Outcome). cutRoll (z .args .r .w) x (z .args .roll .now)) is)))

@@ -9,6 +9,7 @@ use borrow.Author.Needs.{needs}
 use Rattle.lsh.specs.WordSize.{WordSize, sizeOf}
 use Rattle.lsh.proofs.Bytes.{Octets, octets}
 use Rattle.roll.specs.declared.Way.{Way}
+use Rattle.checkpoints.specs.Due.{Checkpoint}
 use Rattle.checkpoints.specs.Slots.{slotCount}
 use Rattle.checkpoints.specs.Roll.{links}
 use Rattle.checkpoints.specs.FreeSlot.{freeSlot}
@@ -52,8 +53,12 @@ module _ (z : tie.Start) where
   room : length (links Z S) < slotCount Z (length S)
   room = omega (arith, z .pre .4, slots, count)
 
+  -- the checkpoint laid, with any number
+  abbrev checkpoint : ℕ → Checkpoint
+  checkpoint k = record { number = k; chain = z .args .t }
+
   within : (0 < taken Z S) × (taken Z S ≤ slotCount Z (length S))
-  within = taken-within Z ok S (z .pre .2) room (z .args .t) (z .pre .1)
+  within = taken-within Z ok S (z .pre .2) room (checkpoint 0) (z .pre .1)
 
 free-is : (c : tie.After-free-slot) → c .free-slot .result ≡ taken (Z (c .before .before .before)) (S (c .before .before .before))
 unfolding taken
@@ -72,10 +77,10 @@ written c =
     ap length (c .put-slot .ensures)
     ∙ slot-size (Z z) (ok z) (slotCount (Z z) (length (S z))) (S z) (sizes z .size) (f .free-slot .result) (free-in f .1) (free-in f .0) (z .args .t) (z .pre .1)
 
-laid-is : (z : WordSize) (s t : List ℕ) {u : List ℕ} {l i : ℕ} → u ≡ withSlot z s i t → l ≡ leadTo z s (length (links z s)) → i ≡ taken z s
-    → withIndex z u l i ≡ laid z t s
+laid-is : (z : WordSize) (s : List ℕ) (c : Checkpoint) {u : List ℕ} {l i : ℕ} → u ≡ withSlot z s i (c .chain) → l ≡ leadTo z s (length (links z s)) → i ≡ taken z s
+    → withIndex z u l i ≡ laid z c s
 unfolding laid
-laid-is z s t slot last chosen = rw (slot, last, chosen)
+laid-is z s c slot last chosen = rw (slot, last, chosen)
 
 returns : tie.Need-returns
 returns c =
@@ -83,10 +88,10 @@ returns c =
     let s = p .before .before .before .before in
     let f = s .before .before in
     let z = f .before .before .before in
-    let bytes : p .put-index .last .1 .0 ≡ laid (Z z) (z .args .t) (S z) =
-    p .put-index .ensures ∙ laid-is (Z z) (S z) (z .args .t) (s .put-slot .ensures) (last z) (free-is f) in (
+    let bytes : (k : ℕ) → p .put-index .last .1 .0 ≡ laid (Z z) (checkpoint z k) (S z) =
+    λ k. p .put-index .ensures ∙ laid-is (Z z) (S z) (checkpoint z k) (s .put-slot .ensures) (last z) (free-is f) in (
       bytes,
-      c .with-link .ensures ∙ way-more (Z z) (ok z) (S z) (z .pre .2) (z .args .t) (z .pre .1) (room z) (way z) (free-is f) ∙ ap (wayOf (Z z)) (sym bytes),
+      c .with-link .ensures ∙ way-more (Z z) (ok z) (S z) (z .pre .2) (checkpoint z 0) (z .pre .1) (room z) (way z) (free-is f) ∙ ap (wayOf (Z z)) (sym (bytes 0)),
     )
 
 pub lay-spec : {M : Type 1} → statement M

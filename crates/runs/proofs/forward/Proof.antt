@@ -4,7 +4,7 @@ use Prim.Native.Nat.{_<_, _^_}
 use native.Mathlib.Omega.{arith}
 use borrow.Author.Needs.{needs}
 use Rattle.lsh.specs.Tabulate.{at}
-use Rattle.lsh.specs.WordSize.{WordSize, lsh256}
+use Rattle.lsh.specs.WordSize.{WordSize, lsh256, lsh512}
 use Rattle.lsh.specs.Block.{forwards}
 use Rattle.lsh.proofs.Figures.{size-32, size-64}
 use Rattle.runs.proofs.Sizes.{run-by, run-none}
@@ -12,7 +12,7 @@ use Rattle.runs.proofs.forward.Statement.{statement}
 use Rattle.runs.proofs.forward.Tie as tie
 
 pub forward-spec : {M : Type 1} → statement M
-unfolding lsh256 forwards
+unfolding lsh256 lsh512 forwards
 forward-spec =
     tie.close
     (tie.spec

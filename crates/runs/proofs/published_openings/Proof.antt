@@ -7,12 +7,12 @@ use Rattle.lsh.specs.StepConstants.{constant}
 use Rattle.lsh.specs.Lane.{mixLane}
 use Rattle.lsh.specs.Step.{addMessage, lanes, mixedLane, mix, permute, step}
 use Rattle.lsh.specs.Expansion.{nextSubMessage, subMessages, subMessage}
-use Rattle.lsh.specs.Block.{steps, forward}
+use Rattle.lsh.specs.Block.{steps, forwardSteps, forward}
 use Rattle.lsh.specs.Opening.{opening}
 use Rattle.runs.specs.Published.{publishedSizes, publishedLengths, openings}
 use Rattle.runs.proofs.published_openings.Statement.{statement}
 use Rattle.runs.proofs.published_openings.Tie as tie
 
 pub published-openings-spec : {M : Type 1} → statement M
-unfolding tabulate tabulateFrom add turn rotateLeft xor lsh256 lsh512 sizeOf alpha beta gamma tau sigma constant mixLane addMessage lanes mixedLane mix permute step nextSubMessage subMessages subMessage steps forward opening publishedSizes publishedLengths openings
+unfolding tabulate tabulateFrom add turn rotateLeft xor lsh256 lsh512 sizeOf alpha beta gamma tau sigma constant mixLane addMessage lanes mixedLane mix permute step nextSubMessage subMessages subMessage steps forwardSteps forward opening publishedSizes publishedLengths openings
 published-openings-spec = tie.close (tie.spec (λ c. refl))

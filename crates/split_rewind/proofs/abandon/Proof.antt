@@ -1,18 +1,15 @@
 -- `split_rewind::abandon` meets its contract. Assumes nothing.
-use mathlib.Core.Path.{_≡_, sym, _∙_}
-use mathlib.Core.Bool.{true}
+use mathlib.Core.Path.{_≡_, sym, ap, _∙_}
+use mathlib.Core.Bool.{true, false, not}
 use borrow.Author.Needs.{needs}
-use borrow.Author.Tests.{not-true, not-false}
-use Rattle.record.specs.Record.{sound, isBegun}
+use Rattle.record.specs.Record.{sound, isBegun, stepped}
+use Rattle.record.proofs.InTurn.{turn-refused, turn-passed, in-turn}
 use Rattle.split_rewind.specs.Abandon.{abandonCall}
 use Rattle.split_rewind.proofs.abandon.Statement.{statement}
 use Rattle.split_rewind.proofs.abandon.Tie as tie
 
-sound-is : (c : tie.Else1) → sound (c .before .before .args .r) ≡ true
-sound-is c = sym (c .before .is-sound .ensures) ∙ not-false _ (c .if1 .left)
-
-begun-is : (c : tie.Else2) → isBegun (c .before .before .before .before .args .r) ≡ true
-begun-is c = sym (c .before .is-begun .ensures) ∙ not-false _ (c .if2 .left)
+turn-is : (c : tie.Else1) → (sound (c .before .before .before .args .r) ≡ true) × (not (isBegun (c .before .before .before .args .r)) ≡ false)
+turn-is c = turn-passed _ (ap not (c .before .before .is-begun .ensures)) (c .before .turn .ensures) (c .if1 .left)
 
 pub abandon-spec : {M : Type 1} → statement M
 unfolding abandonCall
@@ -21,10 +18,12 @@ abandon-spec =
     (tie.spec
     (λ c κs. search needs)
     (λ c κs. search needs)
-    (λ c. c .refused .ensures ∙ rw (sym (c .before .before .is-sound .ensures) ∙ not-true _ (c .before .if1 .taken)))
+    (λ c κs. search needs)
+    (λ c.
+    let t = c .before .before in
+    c .refused .ensures ∙ turn-refused _ (ap not (t .before .is-begun .ensures)) (t .turn .ensures) _ (c .before .if1 .taken))
     (λ c κs. search needs)
     (λ c κs. search needs)
-    (λ c. c .refused2 .ensures ∙ rw (sound-is (c .before .before .before), sym (c .before .before .is-begun .ensures) ∙ not-true _ (c .before .if2 .taken)))
-    (λ c κs. search needs)
-    (λ c κs. search needs)
-    (λ c. c .stepped .ensures ∙ rw (sound-is (c .before .before .before .before), begun-is (c .before .before), c .before .not-begun .ensures)))
+    (λ c.
+    let e = c .before .before in
+    c .stepped .ensures ∙ ap (stepped _) (c .before .not-begun .ensures) ∙ sym (in-turn _ (turn-is e .0) _ (turn-is e .1))))

@@ -63,11 +63,11 @@ remaining-spec =
     (λ c κs.
     let z = c .before .before .before .before .before .before .before in
     (ready z .0, ready z .1, ready z .2, few z .0, few z .1, rw (c .before .held-length .ensures) (held-all z (c .before .before .if1 .taken))))
-    (λ c. c .wound-back .ensures ∙ rw (eq-eqb _ 0 (c .before .before .before .if1 .taken), c .before .before .held-length .ensures))
+    (λ c. c .cut .ensures ∙ rw (eq-eqb _ 0 (c .before .before .before .if1 .taken), c .before .before .held-length .ensures))
     (λ c κs. search needs)
     block-in
     (λ c. sym (block-length (c .before)))
     (λ c κs.
     let z = c .before .before .before .before .before .before .before in
     (ready z .0, ready z .1, ready z .2, few z .0, few z .1, omega (arith, block-length (c .before), c .before .block-bytes .ensures, few z .1)))
-    (λ c. c .wound-back2 .ensures ∙ rw (ne-eqb _ 0 (c .before .before .before .if1 .left), c .before .before .block-bytes .ensures)))
+    (λ c. c .cut2 .ensures ∙ rw (ne-eqb _ 0 (c .before .before .before .if1 .left), c .before .before .block-bytes .ensures)))

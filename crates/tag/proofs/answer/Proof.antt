@@ -1,16 +1,18 @@
 -- `tag::answer` meets its contract. Assumes nothing.
 use native.Mathlib.Omega.{arith}
 use borrow.Author.Needs.{needs}
-use Rattle.tag.proofs.Answers.{refused-first, passed-first}
+use Rattle.answers.proofs.First.{refused-first, passed-first}
+use Rattle.tag.specs.Tag.{tagAnswer}
 use Rattle.tag.proofs.answer.Statement.{statement}
 use Rattle.tag.proofs.answer.Tie as tie
 
 -- `omega` names no call, so that an edit which makes them the other way round is refused at the equation.
 pub answer-spec : {M : Type 1} → statement M
+unfolding tagAnswer
 answer-spec =
     tie.close
     (tie.spec
     (λ c κs. search needs)
-    (λ c. refused-first _ _ _ _ _ (c .if1 .taken) (omega arith))
+    (λ c. refused-first _ _ (omega arith) (c .if1 .taken))
     (λ c κs. search needs)
-    (λ c. passed-first _ _ _ _ _ (c .before .if1 .left) (omega arith) (omega arith)))
+    (λ c. passed-first _ _ (omega arith) (c .before .if1 .left) (omega arith)))

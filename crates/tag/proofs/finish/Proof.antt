@@ -13,7 +13,8 @@ use Rattle.record.proofs.Sound.{sounds}
 use Rattle.hmac.specs.Hmac.{tagOf}
 use Rattle.tag.specs.KeyAnswer.{tagBytes}
 use Rattle.tag.specs.Finish.{finishOutput}
-use Rattle.tag.proofs.Answers.{finish-accepted, refused-output, written-output}
+use Rattle.answers.proofs.Output.{refused-output, written-output}
+use Rattle.tag.proofs.Answers.{finish-accepted}
 use Rattle.tag.proofs.finish.Statement.{statement}
 use Rattle.tag.proofs.finish.Tie as tie
 

@@ -4,12 +4,12 @@ use native.Mathlib.Omega.{arith}
 use lib.ListN.{length, take}
 use lib.Seq.{length-take-le}
 use borrow.Author.Needs.{needs}
-use borrow.Author.Tests.{eq-eqb, ne-eqb}
 use Rattle.runs.specs.Limits.{longestBlock, limit}
 use Rattle.runs.proofs.Limits.{block-most}
 use Rattle.record.specs.declared.Record.{Record}
 use Rattle.record.specs.Record.{sound}
 use Rattle.record.specs.Open.{opened}
+use Rattle.record.proofs.InTurn.{answered-refused, answered-rest}
 use Rattle.append.specs.Append.{appendAccepted}
 use Rattle.hmac.specs.Hmac.{innerByte, xorEach, innerKey}
 use Rattle.hmac.proofs.Keys.{xored-front}
@@ -53,8 +53,7 @@ start-spec =
     (λ c κs. search needs)
     (λ c.
     let k = c .before .before .before in
-    c .refused .ensures
-    ∙ rw (sym (k .key-answer .ensures), ne-eqb _ 0 (c .before .before .if1 .taken), c .before .no-record .ensures))
+    c .refused .ensures ∙ rw (c .before .no-record .ensures) (answered-refused _ _ _ (k .key-answer .ensures) (c .before .before .if1 .taken)))
     (λ c κs. (passed c .wordSize, passed c .digestLength))
     (λ c κs. search needs)
     (λ c κs.
@@ -78,4 +77,4 @@ start-spec =
     let k = o .before .before in
     c .accepted .ensures
     ∙ ap₂ appendAccepted (o .opened .ensures) (inner-is x)
-    ∙ sym (rw (eq-eqb _ 0 (sym (k .key-answer .ensures) ∙ o .before .if1 .left)))))
+    ∙ answered-rest _ _ _ (sym (k .key-answer .ensures) ∙ o .before .if1 .left)))

@@ -6,7 +6,9 @@ use borrow.Author.Needs.{needs}
 use Rattle.runs.specs.Limits.{limit}
 use Rattle.runs.proofs.Limits.{digest-most}
 use Rattle.finalization.proofs.MessageChain.{opened-chain, run-chain}
-use Rattle.whole.proofs.Answers.{Accepted, accepted, refused-output, accepted-output}
+use Rattle.answers.proofs.Output.{refused-output, written-output}
+use Rattle.whole.specs.Whole.{wholeOutput}
+use Rattle.whole.proofs.Answers.{Accepted, accepted, receipt-is}
 use Rattle.whole.proofs.whole.Statement.{statement}
 use Rattle.whole.proofs.whole.Tie as tie
 
@@ -18,12 +20,12 @@ passed c =
     accepted (a .w) (a .n) (length (a .message .now)) (a .last) (a .e) (length (a .output .now)) (sym (c .before .answer .ensures) ∙ c .if1 .left)
 
 pub whole-spec : {M : Type 1} → statement M
-unfolding limit
+unfolding limit wholeOutput
 whole-spec =
     tie.close
     (tie.spec
     (λ c κs. search needs)
-    (λ c. refused-output _ _ (c .before .before .before .before .args .message .now) _ _ (c .before .before .before .before .args .output .now) (c .before .answer .ensures) (c .if1 .taken))
+    (λ c. refused-output _ _ _ (c .before .before .before .before .args .output .now) (c .before .answer .ensures) (c .if1 .taken))
     (λ c. omega (arith, passed c .within))
     (λ c. omega (arith, passed c .within, passed c .end .extra))
     (λ c. omega (arith, passed c .end .extra))
@@ -41,10 +43,13 @@ whole-spec =
     (λ c.
     let p = c .before .before .before .before .before .before .before in
     let z = p .before .before .before .before in
-    accepted-output _ _ (z .args .message .now) _ _ (z .args .output .now)
+    written-output _ _ _ (z .args .output .now)
     (sym (p .before .answer .ensures) ∙ p .if1 .left)
+    (receipt-is (z .args .w) (z .args .n) (z .args .message .now) (z .args .last) (z .args .e)
     (λ i. p .before .before .before .shared-slice-known .given i .fits)
     (z .fits .last .fits)
+    (passed p .end .extra)
+    (passed p .end .low)
     (c .before .before .before .before .before .before .pad-byte .ensures)
-    (c .before .before .before .before .message-chain .ensures ∙ rw (c .before .before .before .before .before .opening .ensures))
+    (c .before .before .before .before .message-chain .ensures ∙ rw (c .before .before .before .before .before .opening .ensures)))
     (c .before .before .write-receipt .ensures)))

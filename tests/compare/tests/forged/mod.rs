@@ -1,9 +1,9 @@
 //! Records that come from no order: sound ones, and ones that break a clause of soundness.
 
-use crate::record::words;
 use compare::roll::CHECKPOINT_BLOCKS;
 use compare::{places, Random, Record, MOST_BYTES};
 use lsh_ref::Word;
+use model::lsh::opening_chain;
 
 /// A sound record, with a split rewind begun mostly.
 pub fn forged_record<W: Word>(random: &mut Random) -> Record {
@@ -12,12 +12,12 @@ pub fn forged_record<W: Word>(random: &mut Random) -> Record {
     let any = random.below(3 * CHECKPOINT_BLOCKS as u64 * block);
     let total = random.one_of([any, any % block, any % (4 * block), any / block * block, MOST_BYTES, MOST_BYTES - any]);
     let mut r = random.record(w, total);
-    let opening = words(&lsh_ref::opening_chain::<W>(r.n));
+    let opening = opening_chain(w, r.n);
     r.chain = random.one_of([r.chain, opening]);
     if random.below(4) == 0 {
         return r;
     }
-    let begun = Record { mark: 1, second: r.chain, ..r };
+    let begun = r.begun();
     let whole = total / block;
     let some = random.below(whole + 1);
     let blocks = random.one_of([0, whole.min(1), some, whole.saturating_sub(1), whole]);
@@ -32,7 +32,7 @@ pub fn forged_record<W: Word>(random: &mut Random) -> Record {
 /// Sound records with this total: with none begun, and with one begun and no block handed back, one, or all.
 pub fn sound_records(w: u64, total: u64, random: &mut Random) -> Vec<Record> {
     let none_begun = random.record(w, total);
-    let begun = Record { mark: 1, second: none_begun.chain, ..none_begun };
+    let begun = none_begun.begun();
     let mut records = vec![none_begun, begun];
     for blocks in [1, total / (4 * w)].into_iter().filter(|_| total >= 4 * w) {
         let back = places(&random.bytes(4 * w as usize));

@@ -3,14 +3,14 @@
 //! chains of its checkpoints and differs from the roll before the call only where document 02 says so, and the blocks run forward are those
 //! run backward and the whole blocks of the tape.
 
-use crate::record::{record_after, record_line, record_of, set_line, words};
 use crate::tape::{Answer, Tape};
 use compare::roll::{self, CHECKPOINT_BLOCKS};
 use compare::{
-    bit_length, hand_back_all, hex, places, receipt, Outcome, Random, Record, Script, ACCEPTED, BAD_ROLL, OUT_OF_TURN,
-    RECEIPT_BYTES,
+    bit_length, hand_back_all, hex, places, receipt, record_line, set_line, Outcome, Random, Record, Script, ACCEPTED,
+    BAD_ROLL, OUT_OF_TURN, RECEIPT_BYTES,
 };
 use lsh_ref::Word;
+use model::lsh::words;
 
 /// About the most bytes of a piece or to hand back, so that a line of a script has room for their digits.
 pub const LONGEST: usize = 110_000;
@@ -69,7 +69,7 @@ impl<'a, W: Word> List<'a, W> {
             script: Script::default(),
             random,
         };
-        assert_eq!(opened, Outcome { number: ACCEPTED, count: 0, next: record_of::<W>(n, &[]) });
+        assert_eq!(opened, Outcome { number: ACCEPTED, count: 0, next: Record::of(Self::W, n, &[]) });
         list.script.call(format!("open {} {n}", Self::W), "open 0");
         if let Some(roll) = &list.roll {
             list.script.call(format!("roll {}", roll.len()), "roll");
@@ -205,7 +205,7 @@ impl<'a, W: Word> List<'a, W> {
     fn tape_record(&self) -> Record {
         let done = self.tape.whole_blocks() * Self::BLOCK;
         let chain = self.chains[self.tape.whole_blocks()];
-        let record = record_after(self.n, done, chain, &self.tape.bytes[done..]);
+        let record = Record::after(Self::W, self.n, done as u64, words(&chain), &self.tape.bytes[done..]);
         let Some(number) = self.tape.begun else {
             return record;
         };
@@ -234,7 +234,7 @@ impl<'a, W: Word> List<'a, W> {
         if self.checkpoints() < had {
             roll::unlinked(Self::W, before, self.checkpoints())
         } else {
-            roll::laid(Self::W, before, after, &self.checkpoints_after(had))
+            roll::laid(Self::W, before, &roll::taken(Self::W, before, after), &self.checkpoints_after(had))
         }
     }
 

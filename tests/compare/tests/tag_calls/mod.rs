@@ -1,13 +1,9 @@
-//! The calls for tags: what they have to answer, by the HMAC over lsh_ref, and each call through the archive with the script that makes it
-//! once more through the program replay.
+//! The calls for tags: what they have to answer, by the model, and each call through the archive with the script that makes it once more
+//! through the program replay.
 
-use crate::hmac;
-use crate::record::{record_after, record_line, set_line};
-use compare::{
-    hex, Outcome, Random, Record, Sameness, Script, ACCEPTED, BAD_WORD_SIZE, DIGEST_PLACE, MOST_BYTES, NO_WHOLE_BYTES,
-    RECEIPT_BYTES,
-};
-use lsh_ref::Word;
+use compare::{hex, record_line, set_line, Outcome, Random, Record, Sameness, Script, ACCEPTED};
+use model::script::verdict;
+use model::{order, tags, Answer};
 
 /// Guard bytes before and after an output.
 const GUARD: usize = 64;
@@ -24,69 +20,19 @@ pub struct Given<'a> {
     pub message: &'a [u8],
 }
 
-/// What a call gives, or the number that it refuses with.
-pub type Answer<T> = Result<T, u32>;
-
 // ---- what has to be answered ----
 
-/// By w and n alone.
-fn right_numbers(w: u64, n: u64) -> Answer<()> {
-    if w != 32 && w != 64 {
-        Err(BAD_WORD_SIZE)
-    } else if n == 0 || n > 8 * w {
-        Err(2)
-    } else if !n.is_multiple_of(8) {
-        Err(NO_WHOLE_BYTES)
-    } else {
-        Ok(())
-    }
-}
+/// The size of an output with room for every tag.
+pub const ROOM: usize = 64;
 
 /// The tag, for an output that has room for it.
 pub fn right_tag(given: &Given) -> Answer<Vec<u8>> {
-    let Given { w, n, key, message } = *given;
-    right_numbers(w, n).map(|()| hmac::tag(w, n, key, message))
+    tags::tag(given.w, given.n, given.key, given.message, ROOM)
 }
 
-fn right_start(given: &Given) -> Outcome {
-    let Given { w, n, key, .. } = *given;
-    match right_numbers(w, n) {
-        Ok(()) => right_append(&compare::open(w, n).next, &hmac::inner_block(w, n, key)),
-        Err(number) => Outcome::refused(number, &no_record()),
-    }
-}
-
-/// On the record of zeros, or a sound one with no split rewind begun.
-fn right_append(r: &Record, piece: &[u8]) -> Outcome {
-    if *r == no_record() {
-        return Outcome::refused(3, r);
-    }
-    if r.total + piece.len() as u64 > MOST_BYTES {
-        return Outcome::refused(5, r);
-    }
-    let next = if r.w == 32 { longer::<u32>(r, piece) } else { longer::<u64>(r, piece) };
-    let block = 4 * r.w;
-    Outcome { number: ACCEPTED, count: next.total / block - r.total / block, next }
-}
-
-fn longer<W: Word>(r: &Record, piece: &[u8]) -> Record {
-    let held = r.total as usize % W::BLOCK_BYTES;
-    let bytes = [&r.held[..held], piece].concat();
-    record_after(r.n, r.total as usize - held, r.chain.map(W::from_u64), &bytes)
-}
-
-/// The tag, for an output that has room for it. Its inner digest is the one that Close gives.
+/// The tag, for an output that has room for it.
 pub fn right_finish(r: &Record, key: &[u8]) -> Answer<Vec<u8>> {
-    let mut receipt = [0; RECEIPT_BYTES];
-    match compare::close(*r, 0, 0, &mut receipt) {
-        ACCEPTED if !r.n.is_multiple_of(8) => Err(NO_WHOLE_BYTES),
-        ACCEPTED => Ok(hmac::tag_of_digest(r.w, r.n, key, &receipt[DIGEST_PLACE..][..r.n as usize / 8])),
-        number => Err(number),
-    }
-}
-
-fn no_record() -> Record {
-    Record::none_begun(0, 0, 0, [0; 16], [0; 256])
+    tags::tag_finish(r, key, ROOM)
 }
 
 // ---- calls ----
@@ -101,7 +47,7 @@ pub struct Calls {
 
 impl Calls {
     pub fn new(seed: u64) -> Calls {
-        Calls { random: Random::new(seed), record: no_record(), script: Script::default() }
+        Calls { random: Random::new(seed), record: Record::ZEROS, script: Script::default() }
     }
 
     /// A key or a message of a few blocks at most.
@@ -130,26 +76,23 @@ impl Calls {
 
     pub fn check(&mut self, given: &Given, tag: &[u8], right: Answer<bool>) {
         let Given { w, n, key, message } = *given;
-        let (number, same, printed) = match right {
-            Ok(true) => (ACCEPTED, true, "0 yes".to_string()),
-            Ok(false) => (ACCEPTED, false, "0 no".to_string()),
-            Err(number) => (number, false, number.to_string()),
-        };
         let line = format!("tagcheck {w} {n} {} {} {}", hex(key), hex(message), hex(tag));
-        assert_eq!(compare::tag_check(w, n, key, message, tag), Sameness { number, same }, "{line}");
-        self.script.call(line, format!("tagcheck {printed}"));
+        assert_eq!(tags::tag_check(w, n, key, message, tag), right, "{line}");
+        let same = Sameness { number: right.err().unwrap_or(ACCEPTED), same: right == Ok(true) };
+        assert_eq!(compare::tag_check(w, n, key, message, tag), same, "{line}");
+        self.script.call(line, format!("tagcheck {}", verdict(right)));
     }
 
     pub fn start(&mut self, given: &Given) {
         let Given { w, n, key, .. } = *given;
-        let right = right_start(given);
+        let right = tags::tag_start(w, n, key);
         let line = format!("tagstart {w} {n} {}", hex(key));
         self.follow(line, compare::tag_start(w, n, key), right, format!("tagstart {}", right.number));
     }
 
     /// Gives the number of the answer.
     pub fn append(&mut self, piece: &[u8]) -> u32 {
-        let right = right_append(&self.record, piece);
+        let right = order::append(&self.record, piece);
         let printed = format!("append {} {}", right.number, right.count);
         self.follow(format!("append {}", hex(piece)), compare::append(self.record, piece), right, printed);
         right.number

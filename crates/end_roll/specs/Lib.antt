@@ -1,2 +1,0 @@
-pub mod EndRoll
-pub mod AsOneRewind
