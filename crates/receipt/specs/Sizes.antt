@@ -10,11 +10,11 @@ unfoldable pub listBytes : ℕ
 listBytes = mostReceipts * receiptBytes
 
 -- the longest name of a file, which is what `io::buffer` has room for
-unfoldable pub nameBytes : ℕ
+abbrev pub nameBytes : ℕ
 nameBytes = 4096
 
 -- the longest key, and one byte more
-unfoldable pub keyRoom : ℕ
+abbrev pub keyRoom : ℕ
 keyRoom = 65536 + 1
 
 -- a line: a backslash, the digits of a receipt, a space and the length, two spaces, a name each of whose bytes is escaped, and the newline;

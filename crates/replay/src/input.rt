@@ -60,6 +60,14 @@ fn begun_bytes(p: Place) -> usize {
     p.begun
 }
 
+// The bytes of the line that has ended: none, as of an empty one, where none has.
+pub fn ended_bytes(p: Place) -> usize {
+    if p.ended {
+        return p.begun;
+    }
+    0
+}
+
 // Reads once. The line that the input ends in may lack the newline.
 fn read(begun: usize, chunk: &mut [u8]) -> Place
     ensures { λ p. ⌜ (p .from ≤ p .to) × (p .to ≤ length (now (chunk .exit))) ⌝ }
@@ -113,5 +121,5 @@ fn joined(begun: usize, piece: &[u8], line: &mut [u8]) -> usize
     if LINE - begun < piece.len() {
         return LINE + 1;
     }
-    text::put(line, begun, piece)
+    buffers::put(line, begun, piece)
 }

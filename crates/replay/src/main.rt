@@ -1,13 +1,12 @@
 // Replays an order: reads calls from standard input, one to a line, makes each, and prints its answer before it waits for the next line.
-mod blocks;
 mod calls;
+mod checks;
 mod input;
 mod order;
-mod receipts;
+mod outputs;
+mod records;
 mod reply;
 mod rolls;
-mod steps;
-mod tags;
 mod words;
 
 ghost use mathlib.Core.Path.{_≡_};
@@ -26,18 +25,23 @@ const BYTES: usize = 131072;
 // The most bytes of a roll.
 const ROLL: usize = 65536;
 
-// Room for what a call is lent: an output, and behind it the roll, which is kept from line to line. One buffer serves both, since no call is lent both and
-// each buffer that is passed on costs.
+// Room for what calls are lent: outputs end to end, and behind their room the roll, which is kept from line to line. One buffer serves both, since no call
+// is lent both and each buffer that is passed on costs.
 const LENT_BYTES: usize = BYTES + ROLL;
 
 // Room for a line, and behind its name for what it prints.
-const ROOM: usize = 2 * LINE + 1024;
+const ROOM: usize = 3 * LINE + 1024;
 
-// What is kept between lines.
-struct Kept {
+// What calls are made on, kept from line to line.
+struct State {
     record: Record,
     // How many bytes the roll has.
     roll: u64,
+}
+
+// What is kept between lines.
+struct Kept {
+    state: State,
     // How many lines have ended.
     lines: u64,
     // Whether to go on: there may be more input, and what was printed could be written.
@@ -91,24 +95,33 @@ fn start() -> Kept {
 }
 
 fn after(r: Record, roll: u64, lines: u64, on: bool) -> Kept {
-    Kept {
+    let s = State {
         record: r,
         roll: roll,
+    };
+    Kept {
+        state: s,
         lines: lines,
         on: on,
     }
 }
 
-// Answers the line, if one has ended.
+// Answers the line that has ended. Where none has it answers an empty one, which prints nothing, since a branch would cost with all the buffers.
 fn answer(k: Kept, p: Place, line: &mut [u8], given: &mut [u8], lent: &mut [u8]) -> Kept
     requires { ⌜ roomBytes ≤ length (now line) ⌝ }
 {
-    if !p.ended {
-        return after(k.record, k.roll, k.lines, p.more);
-    }
-    let c = calls::answer(p.begun, line, k, given, lent);
+    let n = input::ended_bytes(p);
+    let c = calls::answer(n, line, k.state, given, lent);
     let next = c.next;
-    let number = std::num::wrapping_add_u64(k.lines, 1);
-    let printed = reply::print(p.begun, line, number, c, lent);
+    let number = counted(k.lines, p.ended);
+    let printed = reply::print(n, line, number, c, lent);
     after(next, c.roll, number, printed & p.more)
+}
+
+// How many lines have ended with this one.
+fn counted(lines: u64, ended: bool) -> u64 {
+    if ended {
+        return std::num::wrapping_add_u64(lines, 1);
+    }
+    lines
 }

@@ -1,91 +1,58 @@
-// The lines on the record of an order.
-ghost use mathlib.Core.Path.{_≡_};
-ghost use Prim.Native.Nat.{_≤_};
-ghost use lib.ListN.{length};
-ghost use Rattle.runs.specs.Limits.{longestBlock};
-ghost use Rattle.script.specs.Numbers.{wideChain};
+// The lines whose call returns the record of an order, but for those with the roll.
+use crate::State;
 use crate::reply;
 use crate::reply::Reply;
 use crate::words;
 use crate::words::WORDS;
+use record::Outcome;
 use record::Record;
-use record::Split;
-use runs::LONGEST_BLOCK;
-use script::WIDE_CHAIN;
 
-// open W N
-pub fn open(v: [u64; WORDS]) -> Reply {
-    let o = record::open(v[0], v[1]);
-    reply::number(o.number, o.next)
-}
+// The first digit of the kinds of these lines in the table of calls.rt, and the kinds.
+pub const FILE: u64 = 1;
 
-// append BYTES
-pub fn append(v: [u64; WORDS], r: Record, given: &[u8]) -> Reply {
-    let o = append::append(r, words::part(given, 0, v[0]));
-    reply::count(o.number, o.count, o.next)
-}
+const OPEN: u64 = 10;
 
-// rewind KEEP BYTES
-pub fn rewind(v: [u64; WORDS], r: Record, given: &[u8]) -> Reply {
-    let o = rewind::rewind(r, v[0], words::part(given, 0, v[1]));
-    reply::count(o.number, o.count, o.next)
-}
+const APPEND: u64 = 11;
 
-// close LAST E SIZE
-pub fn close(v: [u64; WORDS], r: Record, output: &mut [u8]) -> Reply {
-    let number = close::close(r, (v[0] % 256) as u8, v[1], output);
-    reply::output(number, v[2], r)
-}
+const REWIND: u64 = 12;
 
-// record
-pub fn shown(r: Record) -> Reply {
-    reply::record(r)
-}
+const BEGIN: u64 = 13;
 
-// set W N TOTAL CHAIN HELD MARK SECOND BACK BLOCKS
-pub fn set(v: [u64; WORDS], r: Record, given: &[u8]) -> Reply {
-    let chain = words::part(given, 0, v[3]);
-    let held = words::part(given, v[3], v[4]);
-    let second = words::part(given, v[4], v[6]);
-    let back = words::part(given, v[6], v[7]);
-    if chain.len() != WIDE_CHAIN {
-        return reply::plain(reply::NOT_A_CALL, r);
+const HANDBACK: u64 = 14;
+
+const END: u64 = 15;
+
+const ABANDON: u64 = 16;
+
+const TAGSTART: u64 = 17;
+
+// Answers a line of a kind. A new order has no count.
+pub fn answer(kind: u64, v: [u64; WORDS], s: State, given: &[u8]) -> Reply {
+    let o = call(kind, v, s.record, given);
+    match kind {
+        OPEN | TAGSTART => reply::number(o.number, o.next),
+        _ => reply::count(o.number, o.count, o.next),
     }
-    if held.len() != LONGEST_BLOCK {
-        return reply::plain(reply::NOT_A_CALL, r);
-    }
-    if second.len() != WIDE_CHAIN {
-        return reply::plain(reply::NOT_A_CALL, r);
-    }
-    if back.len() != LONGEST_BLOCK {
-        return reply::plain(reply::NOT_A_CALL, r);
-    }
-    let c = script::chain_of(chain);
-    let h = record::hold(held);
-    let s = split_of(v[5], second, back, v[8]);
-    reply::plain(
-        reply::NAME,
-        Record {
-            w: v[0],
-            n: v[1],
-            total: v[2],
-            chain: c,
-            held: h,
-            split: s,
-        },
-    )
 }
 
-// What the last four words say of a split rewind.
-fn split_of(mark: u64, second: &[u8], back: &[u8], blocks: u64) -> Split
-    requires { ⌜ (length (now second) ≡ wideChain) × (length (now back) ≤ longestBlock) ⌝ }
-{
-    let c = script::chain_of(second);
-    let b = record::hold(back);
-    Split {
-        mark: mark,
-        second: c,
-        back: b,
-        blocks: blocks,
+fn call(kind: u64, v: [u64; WORDS], r: Record, given: &[u8]) -> Outcome {
+    match kind {
+        // open W N
+        OPEN => record::open(v[0], v[1]),
+        // append BYTES
+        APPEND => append::append(r, words::part(given, 0, v[0])),
+        // rewind KEEP BYTES
+        REWIND => rewind::rewind(r, v[0], words::part(given, 0, v[1])),
+        // begin BYTES
+        BEGIN => split_rewind::begin(r, words::part(given, 0, v[0])),
+        // handback BYTES
+        HANDBACK => split_rewind::hand_back(r, words::part(given, 0, v[0])),
+        // end KEEP
+        END => split_rewind::end(r, v[0]),
+        // abandon
+        ABANDON => split_rewind::abandon(r),
+        // tagstart W N KEY
+        TAGSTART => tag::start(v[0], v[1], words::part(given, 0, v[2])),
+        _ => record::refused(0, r),
     }
 }

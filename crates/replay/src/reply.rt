@@ -17,57 +17,55 @@ use script::WIDE_CHAIN;
 // The most numbers that a line prints.
 const NUMBERS: usize = 5;
 
-// What comes behind the name of a line and its numbers: nothing, yes, no, a part of what the call was lent, or the words of the record.
-pub const NAME: u32 = 0;
+// What comes behind the name of a line and its numbers: nothing, yes, no, a part of what the call was lent, two parts, or the words of the record.
+pub const NAME: u64 = 0;
 
-const YES: u32 = 1;
+const YES: u64 = 1;
 
-const NO: u32 = 2;
+const NO: u64 = 2;
 
-const LENT: u32 = 3;
+const LENT: u64 = 3;
 
-const RECORD: u32 = 4;
+const TWO_LENT: u64 = 4;
+
+const RECORD: u64 = 5;
 
 // A line that prints nothing, and, from TOO_LONG on, those that are no call.
-pub const NOTHING: u32 = 5;
+pub const NOTHING: u64 = 6;
 
-pub const TOO_LONG: u32 = 6;
+pub const TOO_LONG: u64 = 7;
 
-pub const NOT_A_CALL: u32 = 7;
+pub const NOT_A_CALL: u64 = 8;
 
-// The answer to a line: what it prints, with the first count of the numbers and a part of the buffer from which calls are lent, and the record that is
-// kept.
+// The answer to a line: what it prints, with the first count of the numbers and a part of the buffer from which calls are lent, or two parts end to end,
+// the first up to the middle; and the record that is kept.
 pub struct Reply {
-    what: u32,
+    what: u64,
     count: usize,
     numbers: [u64; NUMBERS],
     from: u64,
+    middle: u64,
     to: u64,
     pub next: Record,
     // How many bytes the roll has after the line.
     pub roll: u64,
 }
 
-fn reply_of(what: u32, count: usize, numbers: [u64; NUMBERS], r: Record) -> Reply {
+fn reply_of(what: u64, count: usize, numbers: [u64; NUMBERS], r: Record) -> Reply {
     let x = numbers;
     Reply {
         what: what,
         count: count,
         numbers: x,
         from: 0,
+        middle: 0,
         to: 0,
         next: r,
         roll: 0,
     }
 }
 
-// The same where the roll has so many bytes.
-pub fn with_roll(size: u64, mut c: Reply) -> Reply {
-    c.roll = size;
-    c
-}
-
-pub fn plain(what: u32, r: Record) -> Reply {
+pub fn plain(what: u64, r: Record) -> Reply {
     reply_of(what, 0, [0; NUMBERS], r)
 }
 
@@ -94,10 +92,18 @@ pub fn truth(answer: u32, is: bool, r: Record) -> Reply {
     reply_of(NO, 1, [0; NUMBERS], r)
 }
 
-// The first size bytes of the output.
+// The output, which has size bytes.
 pub fn output(number: u32, size: u64, r: Record) -> Reply {
     let mut c = reply_of(LENT, 1, [number as u64, 0, 0, 0, 0], r);
     c.to = size;
+    c
+}
+
+// Two outputs, of which the first ends at a place and the second at another.
+pub fn outputs(number: u32, first: u64, second: u64, r: Record) -> Reply {
+    let mut c = reply_of(TWO_LENT, 1, [number as u64, 0, 0, 0, 0], r);
+    c.middle = first;
+    c.to = second;
     c
 }
 
@@ -105,7 +111,7 @@ pub fn record(r: Record) -> Reply {
     reply_of(RECORD, 3, [r.w, r.n, r.total, 0, 0], r)
 }
 
-// The roll, which has size bytes and stands behind the room for an output.
+// The roll, which has size bytes and stands behind the room for outputs.
 pub fn roll(size: u64, r: Record) -> Reply {
     let mut c = reply_of(LENT, 0, [0; NUMBERS], r);
     c.from = BYTES as u64;
@@ -130,7 +136,7 @@ pub fn print(n: usize, line: &mut [u8], k: u64, c: Reply, lent: &[u8]) -> bool
 fn write(line: &mut [u8], n: usize) -> bool
     requires { ⌜ n < length (now line) ⌝ }
 {
-    let end = text::put(line, n, b"\n");
+    let end = buffers::put(line, n, b"\n");
     if io::write_all(STDOUT_FILENO, &line[0..end]) {
         return true;
     }
@@ -144,7 +150,7 @@ fn put_front(n: usize, line: &mut [u8], k: u64, c: Reply) -> usize
     ensures { λ r. ⌜ r ≤ lineBytes + mostNumbers * (1 + mostDigits) ⌝ }
 {
     if TOO_LONG <= c.what {
-        let a = text::put(line, 0, b"line ");
+        let a = buffers::put(line, 0, b"line ");
         return decimal::put_number(line, a, k);
     }
     let m = words::least(n, LINE);
@@ -171,7 +177,7 @@ fn put_next(line: &mut [u8], from: usize, x: u64) -> usize
     requires { ⌜ from + 1 + mostDigits ≤ length (now line) ⌝ }
     ensures { λ r. ⌜ r ≤ from + 1 + mostDigits ⌝ }
 {
-    let a = text::put(line, from, b" ");
+    let a = buffers::put(line, from, b" ");
     decimal::put_number(line, a, x)
 }
 
@@ -183,31 +189,45 @@ fn put_rest(line: &mut [u8], from: usize, c: Reply, lent: &[u8]) -> usize
     let what = c.what;
     match what {
         LENT => put_part(line, from, words::part(lent, c.from, c.to)),
+        TWO_LENT => put_two(
+            line,
+            from,
+            words::part(lent, c.from, c.middle),
+            words::part(lent, c.middle, c.to),
+        ),
         RECORD => put_record(line, from, c.next),
         _ => put_words(line, from, what),
     }
 }
 
-fn put_words(line: &mut [u8], from: usize, what: u32) -> usize
+fn put_words(line: &mut [u8], from: usize, what: u64) -> usize
     requires { ⌜ (roomBytes ≤ length (now line)) × (from ≤ lineBytes + mostNumbers * (1 + mostDigits)) ⌝ }
     ensures { λ r. ⌜ r < roomBytes ⌝ }
 {
     match what {
-        YES => text::put(line, from, b" yes"),
-        NO => text::put(line, from, b" no"),
-        TOO_LONG => text::put(line, from, b": too long"),
-        NOT_A_CALL => text::put(line, from, b": not a call"),
+        YES => buffers::put(line, from, b" yes"),
+        NO => buffers::put(line, from, b" no"),
+        TOO_LONG => buffers::put(line, from, b": too long"),
+        NOT_A_CALL => buffers::put(line, from, b": not a call"),
         _ => from,
     }
 }
 
 // A part of what calls are lent: an output or the roll, at most as many bytes as a line can say.
 fn put_part(line: &mut [u8], from: usize, part: &[u8]) -> usize
-    requires { ⌜ (roomBytes ≤ length (now line)) × (from ≤ lineBytes + mostNumbers * (1 + mostDigits)) ⌝ }
-    ensures { λ r. ⌜ r < roomBytes ⌝ }
+    requires { ⌜ from + 2 + lineBytes ≤ length (now line) ⌝ }
+    ensures { λ r. ⌜ r ≤ from + 2 + lineBytes ⌝ }
 {
     let n = words::least(part.len(), BYTES);
     put_bytes(line, from, &part[0..n])
+}
+
+fn put_two(line: &mut [u8], from: usize, first: &[u8], second: &[u8]) -> usize
+    requires { ⌜ from + 2 * (2 + lineBytes) ≤ length (now line) ⌝ }
+    ensures { λ r. ⌜ r ≤ from + 2 * (2 + lineBytes) ⌝ }
+{
+    let a = put_part(line, from, first);
+    put_part(line, a, second)
 }
 
 // A space and bytes.
@@ -215,7 +235,7 @@ fn put_bytes(line: &mut [u8], from: usize, s: &[u8]) -> usize
     requires { ⌜ from + 2 + 2 * length (now s) ≤ length (now line) ⌝ }
     ensures { λ r. ⌜ r ≤ from + 2 + 2 * length (now (s .entry)) ⌝ }
 {
-    let a = text::put(line, from, b" ");
+    let a = buffers::put(line, from, b" ");
     text::put_bytes(line, a, s)
 }
 

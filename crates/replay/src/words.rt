@@ -15,56 +15,43 @@ const LENT: u8 = 0xa5;
 
 // What the words after the name say.
 pub struct Words {
-    // The place of the name in the table of forms.
-    pub place: usize,
-    // Whether the words so far are those of the form.
+    // The kind of the line.
+    pub kind: u64,
+    // Whether there is such a kind, and the words so far are those of its form.
     pub is: bool,
-    // One value for each: of a number itself; of LAST the byte; of BYTES, which stand end to end in one buffer, the place where they end; of SIZE, and
-    // of BYTES that are lent as an output, how many bytes the output or the roll has.
+    // One value for each: of a number, LAST and SIZE of a roll itself; of BYTES, which stand end to end in one buffer, the place where they end; and of
+    // the outputs that a call is lent, which stand end to end in another, likewise.
     pub values: [u64; WORDS],
-    // How many bytes the output has.
-    pub size: u64,
     // Where the last BYTES end.
-    used: u64,
+    given: u64,
+    // Where the last output ends.
+    pub lent: u64,
     // The place of the line where the next word begins.
     next: usize,
 }
 
-// Reads the words of a line by a form, which has a letter for each word after the name: n a number, l LAST, s SIZE, b BYTES, o BYTES that are lent as
-// an output, r SIZE of a roll, c BYTES of a roll. A dash is the form without words.
-pub fn read(place: usize, line: &[u8], form: &[u8], given: &mut [u8], output: &mut [u8]) -> Words {
-    let mut w = none(place, script::until(line, b' '));
-    let end = letters(form);
+// Reads the words of a line by a form, which has a letter for each word after the name: n a number, l LAST, b BYTES, s SIZE of an output, o BYTES that are
+// lent as an output, r SIZE of a roll, c BYTES of a roll. A dash is the form without words.
+pub fn read(kind: Number, line: &[u8], form: &[u8], given: &mut [u8], lent: &mut [u8]) -> Words {
+    let mut w = none(kind, script::until(line, b' '));
+    let end = script::until(form, b'-');
     let mut i: usize = 0;
     while i < end {
-        w = read_word(w, i, form[i], line, given, output);
+        w = read_word(w, i, form[i], line, given, lent);
         i += 1;
     }
     complete(w, line.len())
 }
 
-fn none(place: usize, name: usize) -> Words {
+fn none(kind: Number, name: usize) -> Words {
     Words {
-        place: place,
-        is: true,
+        kind: kind.value,
+        is: kind.is,
         values: [0u64; WORDS],
-        size: 0,
-        used: 0,
+        given: 0,
+        lent: 0,
         next: std::num::wrapping_add_usize(name, 1),
     }
-}
-
-// How many letters a form has.
-fn letters(form: &[u8]) -> usize
-    ensures { λ r. ⌜ r ≤ length (now (form .entry)) ⌝ }
-{
-    if form.len() == 0 {
-        return 0;
-    }
-    if form[0] == b'-' {
-        return 0;
-    }
-    form.len()
 }
 
 // The words of a line that ends where the last word does.
@@ -80,11 +67,11 @@ fn read_word(
     letter: u8,
     line: &[u8],
     given: &mut [u8],
-    output: &mut [u8],
+    lent: &mut [u8],
 ) -> Words {
     let at = least(w.next, line.len());
     let end = at + script::until(&line[at..], b' ');
-    let v = value(letter, &line[at..end], w.used, given, output);
+    let v = value(letter, &line[at..end], w, given, lent);
     with(w, i, letter, v, at, end)
 }
 
@@ -103,36 +90,25 @@ fn with(mut w: Words, i: usize, letter: u8, v: Number, at: usize, end: usize) ->
         w.values[i] = v.value;
     }
     w.is = w.is & v.is & (i < WORDS) & (at == w.next);
-    w.size = size_after(letter, w.size, v.value);
-    w.used = used_after(letter, w.used, v.value);
     w.next = std::num::wrapping_add_usize(end, 1);
+    match letter {
+        b'b' | b'c' => w.given = v.value,
+        b's' | b'o' => w.lent = v.value,
+        _ => {}
+    }
     w
 }
 
-fn size_after(letter: u8, before: u64, value: u64) -> u64 {
-    match letter {
-        b's' | b'o' => value,
-        _ => before,
-    }
-}
-
-fn used_after(letter: u8, before: u64, value: u64) -> u64 {
-    match letter {
-        b'b' | b'c' => value,
-        _ => before,
-    }
-}
-
 // What a word says, if it is what the letter asks for.
-fn value(letter: u8, word: &[u8], used: u64, given: &mut [u8], output: &mut [u8]) -> Number {
+fn value(letter: u8, word: &[u8], w: Words, given: &mut [u8], lent: &mut [u8]) -> Number {
     match letter {
         b'n' => script::read_number(word),
         b'l' => last(word),
-        b's' => size(word, output),
-        b'b' => bytes(word, used, given),
-        b'o' => lent(word, output),
-        b'r' => roll_size(word),
-        b'c' => roll_bytes(word, used, given),
+        b's' => output(word, OUTPUT, w.lent, lent),
+        b'b' => bytes(word, w.given, given),
+        b'o' => bytes(word, w.lent, lent),
+        b'r' => size(word, ROLL as u64),
+        b'c' => roll_bytes(word, w.given, given),
         _ => no_value(),
     }
 }
@@ -157,40 +133,37 @@ fn wide(x: u8) -> u64 {
     x as u64
 }
 
-fn size(word: &[u8], output: &mut [u8]) -> Number {
+// SIZE, at most so many bytes.
+fn size(word: &[u8], most: u64) -> Number {
     let v = script::read_number(word);
-    if OUTPUT < v.value {
+    if most < v.value {
         return no_value();
     }
-    let n = fitting(v.value, output);
-    text::fill(&mut output[0..n], LENT);
     v
 }
 
-fn bytes(word: &[u8], used: u64, given: &mut [u8]) -> Number {
-    let from = fitting(used, given);
-    let n = hex::read_bytes(word, &mut given[from..]);
+// SIZE of an output, which stands behind the bytes that are used.
+fn output(word: &[u8], most: u64, used: u64, lent: &mut [u8]) -> Number {
+    let v = size(word, most);
+    let end = std::num::wrapping_add_u64(used, v.value);
+    let p = within(used, end, lent);
+    let from = p.from;
+    let to = p.to;
+    buffers::fill(&mut lent[from..to], LENT);
+    Number {
+        is: v.is,
+        value: end,
+    }
+}
+
+// BYTES, which are put behind those that are used.
+fn bytes(word: &[u8], used: u64, room: &mut [u8]) -> Number {
+    let from = fitting(used, room);
+    let n = hex::read_bytes(word, &mut room[from..]);
     Number {
         is: n.is,
         value: (from + n.count) as u64,
     }
-}
-
-fn lent(word: &[u8], output: &mut [u8]) -> Number {
-    let n = hex::read_bytes(word, output);
-    Number {
-        is: n.is,
-        value: n.count as u64,
-    }
-}
-
-// SIZE of a roll.
-fn roll_size(word: &[u8]) -> Number {
-    let v = script::read_number(word);
-    if (ROLL as u64) < v.value {
-        return no_value();
-    }
-    v
 }
 
 // BYTES of a roll. Each byte has two digits.
@@ -211,6 +184,28 @@ pub fn fitting(size: u64, room: &[u8]) -> usize
     size as usize
 }
 
+// Where a part of a buffer begins and ends.
+pub struct Bounds {
+    pub from: usize,
+    pub to: usize,
+}
+
+// The part from a place up to another; an empty one where the buffer has no such part.
+pub fn within(from: u64, to: u64, room: &[u8]) -> Bounds
+    ensures { λ p. ⌜ (p .from ≤ p .to) × (p .to ≤ length (now (room .entry))) ⌝ }
+{
+    if to < from {
+        return Bounds { from: 0, to: 0 };
+    }
+    if (room.len() as u64) < to {
+        return Bounds { from: 0, to: 0 };
+    }
+    Bounds {
+        from: from as usize,
+        to: to as usize,
+    }
+}
+
 // The bytes of a buffer from a place up to another; none where it has no such part.
 pub fn part(s: &[u8], from: u64, to: u64) -> &[u8] {
     if (s.len() as u64) < to {
@@ -222,4 +217,10 @@ pub fn part(s: &[u8], from: u64, to: u64) -> &[u8] {
     let a = from as usize;
     let e = to as usize;
     &s[a..e]
+}
+
+// Copies bytes to the front of a buffer, as many as have room there.
+pub fn copy(bytes: &[u8], room: &mut [u8]) {
+    let n = least(bytes.len(), room.len());
+    buffers::put(room, 0, &bytes[0..n]);
 }

@@ -7,10 +7,10 @@ use Rattle.replay.proofs.words.read.Statement.{statement}
 use Rattle.replay.proofs.words.read.Tie as tie
 
 abbrev Inv-loop : tie.InvT-loop
-Inv-loop place line form given₀ output₀ w₀ end i₀ given output w i = (end ≤ length form) × (length given ≡ length given₀) × (length output ≡ length output₀)
+Inv-loop line form given₀ lent₀ w₀ end i₀ given lent w i = (end ≤ length form) × (length given ≡ length given₀) × (length lent ≡ length lent₀)
 
 abbrev μ-loop : tie.MeasureT-loop
-μ-loop place line form given₀ output₀ w₀ end i₀ given output w i = end - i
+μ-loop line form given₀ lent₀ w₀ end i₀ given lent w i = end - i
 
 pub read-spec : {M : Type 1} → statement M
 read-spec =
@@ -21,7 +21,7 @@ read-spec =
     (λ c κs. tt)
     (λ c κs. tt)
     (λ c κs. tt)
-    (λ c. (c .letters .ensures, refl, refl))
+    (λ c. (c .until2 .ensures .1, refl, refl))
     (λ c. omega arith)
     (λ c κs. tt)
     (λ c. omega arith)

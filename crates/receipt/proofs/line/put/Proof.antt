@@ -1,0 +1,24 @@
+-- `receipt::line::put` meets its contract. Assumes nothing.
+use native.Mathlib.Omega.{arith}
+use lib.ListN.{length-set}
+use borrow.Author.Needs.{needs}
+use Rattle.finalization.specs.Receipt.{receiptBytes}
+use Rattle.receipt.specs.Sizes.{lineBytes}
+use Rattle.receipt.proofs.line.put.Statement.{statement}
+use Rattle.receipt.proofs.line.put.Tie as tie
+
+pub put-spec : {M : Type 1} → statement M
+unfolding lineBytes receiptBytes
+put-spec =
+    tie.close
+    (tie.spec
+    (λ c κs. omega arith)
+    (λ c κs. omega arith)
+    (λ c. search needs)
+    (λ c κs. omega arith)
+    (λ c κs. omega arith)
+    (λ c. omega arith)
+    (λ c. rw length-set (omega arith))
+    (λ c. omega arith)
+    (λ c. simp length-set (omega arith))
+    (λ c. (omega arith, omega arith)))

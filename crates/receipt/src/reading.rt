@@ -1,0 +1,88 @@
+// Files read in chunks, and what they hold appended to a record.
+use crate::messages;
+use libc::STDIN_FILENO;
+use record::Record;
+
+// The record of a file's bytes, if they could be read.
+pub struct Reading {
+    pub good: bool,
+    // Whether there may be more bytes.
+    more: bool,
+    pub record: Record,
+}
+
+// The record of a file's bytes.
+pub fn read_file(name: &[u8], opened: Record) -> Reading {
+    let fd = open_file(name);
+    if fd < 0 {
+        return so_far(false, false, opened);
+    }
+    let t = read_all(fd, name, opened);
+    close_file(fd);
+    t
+}
+
+// The descriptor of a file, or -1, which is said. A dash names standard input.
+pub fn open_file(name: &[u8]) -> i32 {
+    if buffers::equal_bytes(name, b"-") {
+        return STDIN_FILENO;
+    }
+    let fd = os::open_read(name);
+    if fd < 0 {
+        messages::fail(name);
+    }
+    fd
+}
+
+pub fn close_file(fd: i32) {
+    if fd != STDIN_FILENO {
+        libc::close(fd);
+    }
+}
+
+// A proved loop has to end, and nothing says that a file does, so the reads are counted down from a number that no run uses up.
+fn read_all(fd: i32, name: &[u8], opened: Record) -> Reading {
+    let mut chunk = io::large_buffer();
+    let mut t = so_far(true, true, opened);
+    let mut reads = u64::MAX;
+    while reads > 0 && t.more {
+        t = read_some(fd, name, t.record, &mut chunk);
+        reads -= 1;
+    }
+    t
+}
+
+// Reads once, and appends what came.
+fn read_some(fd: i32, name: &[u8], r: Record, chunk: &mut [u8]) -> Reading {
+    let got = libc::read(fd, chunk);
+    if got < 0 {
+        messages::fail(name);
+        return so_far(false, false, r);
+    }
+    let n = io::count(got, chunk);
+    append(name, r, &chunk[..n])
+}
+
+// Appends the bytes of a read, which had none if the file has no more.
+fn append(name: &[u8], r: Record, piece: &[u8]) -> Reading {
+    if piece.len() == 0 {
+        return so_far(true, false, r);
+    }
+    let o = append::append(r, piece);
+    if o.number != 0 {
+        messages::say(
+            name,
+            b": it has more than 2^40 bytes, the key's block counted if there is a key\n",
+        );
+        return so_far(false, false, r);
+    }
+    so_far(true, true, o.next)
+}
+
+fn so_far(good: bool, more: bool, r: Record) -> Reading {
+    Reading {
+        good: good,
+        more: more,
+        record: r,
+    }
+}
