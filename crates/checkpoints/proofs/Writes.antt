@@ -15,7 +15,7 @@ use Rattle.lsh.specs.Bytes.{wordAt, wordsOf, byteAt, bytesOf}
 use Rattle.lsh.specs.Block.{Chain}
 use Rattle.lsh.proofs.Tabulate.{length-tabulate, at-tabulate, tabulate-cong}
 use Rattle.lsh.proofs.Bytes.{Octets, word-bytes, chain-bytes, length-chain, words-of-bytes}
-use Rattle.engine.proofs.Places.{at-sets-before, at-sets-after, at-sets-in}
+use Rattle.loops.proofs.Places.{at-sets-before, at-sets-after, at-sets-in}
 use Rattle.checkpoints.specs.Slots.{indexBytes, slotBytes, rollBytes, indexPlace, chainPlace, slotAt}
 use Rattle.checkpoints.specs.Roll.{nextIndex, chainIn}
 use Rattle.checkpoints.specs.Checkpoints.{withIndex, withSlot}

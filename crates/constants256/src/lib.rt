@@ -5,7 +5,7 @@ ghost use lib.ListN.{length};
 ghost use lib.Seq.{sets};
 ghost use Rattle.lsh.specs.WordSize.{lsh256};
 ghost use Rattle.lsh.specs.StepConstants.{constants};
-ghost use Rattle.engine.specs.Constants.{four, nextFourConstants, withFourConstants};
+ghost use Rattle.loops.specs.Constants.{four, nextFourConstants, withFourConstants};
 
 // The figures of the word size.
 pub struct Lsh256 {}

@@ -3,7 +3,7 @@ use mathlib.Core.Path.{refl}
 use Prim.Native.Nat.{_+_, _-_}
 use native.Mathlib.Omega.{arith}
 use Rattle.lsh.specs.Tabulate.{at}
-use Rattle.engine.proofs.Places.{Placed, placed-none, placed-more, copied-all}
+use Rattle.loops.proofs.Places.{Placed, placed-none, placed-more, copied-all}
 use Rattle.buffers.proofs.put.Statement.{statement}
 use Rattle.buffers.proofs.put.Tie as tie
 

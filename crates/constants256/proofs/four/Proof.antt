@@ -3,8 +3,8 @@ use mathlib.Core.Path.{refl}
 use Prim.Native.Nat.{_+_, _-_}
 use native.Mathlib.Omega.{arith}
 use Rattle.lsh.specs.Tabulate.{at}
-use Rattle.engine.specs.Constants.{four}
-use Rattle.engine.proofs.Places.{Placed, placed-none, filled-more, filled-all}
+use Rattle.loops.specs.Constants.{four}
+use Rattle.loops.proofs.Places.{Placed, placed-none, filled-more, filled-all}
 use Rattle.constants256.proofs.four.Statement.{statement}
 use Rattle.constants256.proofs.four.Tie as tie
 

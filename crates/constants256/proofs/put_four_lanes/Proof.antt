@@ -5,7 +5,7 @@ use native.Mathlib.Omega.{arith}
 use borrow.Author.Needs.{needs}
 use lib.ListN.{length}
 use Rattle.lsh.specs.WordSize.{lsh256}
-use Rattle.engine.proofs.Constants.{WorkedOut, worked-none, worked-more, worked-all}
+use Rattle.loops.proofs.Constants.{WorkedOut, worked-none, worked-more, worked-all}
 use Rattle.constants256.proofs.put_four_lanes.Statement.{statement}
 use Rattle.constants256.proofs.put_four_lanes.Tie as tie
 

@@ -4,7 +4,7 @@ use Prim.Native.Nat.{_+_, _-_, _≤_}
 use native.Mathlib.Omega.{arith}
 use lib.ListN.{length}
 use Rattle.lsh.specs.Tabulate.{at}
-use Rattle.engine.proofs.Places.{Placed, placed-none, placed-more, copied-all}
+use Rattle.loops.proofs.Places.{Placed, placed-none, placed-more, copied-all}
 use Rattle.constants512.proofs.put_four.Statement.{statement}
 use Rattle.constants512.proofs.put_four.Tie as tie
 

@@ -1,7 +1,7 @@
 -- `constants512::step_constants` meets its contract: each constant is that of (14), for every step and lane. Assumes nothing.
 use borrow.Author.Needs.{needs}
 use Rattle.lsh.specs.WordSize.{lsh512}
-use Rattle.engine.proofs.Constants.{with-all}
+use Rattle.loops.proofs.Constants.{with-all}
 use Rattle.constants512.proofs.step_constants.Statement.{statement}
 use Rattle.constants512.proofs.step_constants.Tie as tie
 

@@ -4,7 +4,7 @@ use native.Mathlib.Omega.{arith}
 use borrow.Author.Needs.{needs}
 use Rattle.lsh.specs.Tabulate.{at}
 use Rattle.lsh.specs.Word.{xor}
-use Rattle.engine.proofs.Places.{Placed, placed-none, filled-more, front-stored}
+use Rattle.loops.proofs.Places.{Placed, placed-none, filled-more, front-stored}
 use Rattle.finalization.proofs.final_words.Statement.{statement}
 use Rattle.finalization.proofs.final_words.Tie as tie
 

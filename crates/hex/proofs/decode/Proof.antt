@@ -2,7 +2,7 @@
 use Prim.Native.Nat.{_-_}
 use native.Mathlib.Omega.{arith}
 use borrow.Author.Needs.{needs}
-use Rattle.engine.proofs.Places.{Placed, placed-none, filled-more, stored-front}
+use Rattle.loops.proofs.Places.{Placed, placed-none, filled-more, stored-front}
 use Rattle.hex.specs.Hex.{byteOf}
 use Rattle.hex.proofs.decode.Statement.{statement}
 use Rattle.hex.proofs.decode.Tie as tie

@@ -9,8 +9,8 @@ use mir.Val.{Fits}
 use borrow.Author.Needs.{needs}
 use Rattle.lsh.specs.Tabulate.{at}
 use Rattle.lsh.specs.Word.{xor}
-use Rattle.engine.proofs.Machine.{xor-is}
-use Rattle.engine.proofs.Places.{Placed, placed-none, filled-more, filled-all}
+use Rattle.loops.proofs.Machine.{xor-is}
+use Rattle.loops.proofs.Places.{Placed, placed-none, filled-more, filled-all}
 use Rattle.runs.specs.Limits.{longestBlock}
 use Rattle.hmac.specs.Hmac.{xorEach}
 use Rattle.hmac.proofs.xor_each.Statement.{statement}

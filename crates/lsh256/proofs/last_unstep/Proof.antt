@@ -2,7 +2,7 @@
 use native.Mathlib.Omega.{arith}
 use borrow.Author.Needs.{needs}
 use Rattle.lsh.specs.WordSize.{lsh256}
-use Rattle.engine.proofs.Turns.{unstepped-none, unstepped-is, unstepped-one}
+use Rattle.loops.proofs.Turns.{unstepped-none, unstepped-is, unstepped-one}
 use Rattle.lsh256.proofs.last_unstep.Statement.{statement}
 use Rattle.lsh256.proofs.last_unstep.Tie as tie
 

@@ -3,7 +3,7 @@ use Prim.Native.Nat.{_-_, _*_, _≤_}
 use native.Mathlib.Omega.{arith}
 use borrow.Author.Needs.{needs}
 use Rattle.lsh.specs.WordSize.{lsh256}
-use Rattle.engine.proofs.Turns.{Stepped, stepped-none, stepped-is, stepped-one, stepped-all}
+use Rattle.loops.proofs.Turns.{Stepped, stepped-none, stepped-is, stepped-one, stepped-all}
 use Rattle.lsh256.proofs.some_steps.Statement.{statement}
 use Rattle.lsh256.proofs.some_steps.Tie as tie
 

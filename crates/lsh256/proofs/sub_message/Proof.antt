@@ -4,8 +4,8 @@ use Prim.Native.Nat.{_+_, _-_, _*_}
 use native.Mathlib.Omega.{arith}
 use Rattle.lsh.specs.Tabulate.{at}
 use Rattle.lsh.specs.WordSize.{lsh256}
-use Rattle.engine.specs.Rows.{expandedWords, row}
-use Rattle.engine.proofs.Places.{Placed, placed-none, filled-more, filled-all}
+use Rattle.loops.specs.Rows.{expandedWords, row}
+use Rattle.loops.proofs.Places.{Placed, placed-none, filled-more, filled-all}
 use Rattle.lsh256.proofs.sub_message.Statement.{statement}
 use Rattle.lsh256.proofs.sub_message.Tie as tie
 

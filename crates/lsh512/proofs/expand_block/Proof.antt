@@ -3,8 +3,8 @@ use native.Mathlib.Omega.{arith}
 use borrow.Author.Needs.{needs}
 use Rattle.lsh.specs.WordSize.{lsh512}
 use Rattle.lsh.proofs.Bytes.{length-words}
-use Rattle.engine.specs.Rows.{expandedWords}
-use Rattle.engine.proofs.Rows.{expanded-stored}
+use Rattle.loops.specs.Rows.{expandedWords}
+use Rattle.loops.proofs.Rows.{expanded-stored}
 use Rattle.lsh512.proofs.expand_block.Statement.{statement}
 use Rattle.lsh512.proofs.expand_block.Tie as tie
 

@@ -6,8 +6,8 @@ use borrow.Author.Needs.{needs}
 use lib.ListN.{length}
 use Rattle.lsh.specs.WordSize.{lsh512, wordBytes, blockBytes}
 use Rattle.lsh.specs.Bytes.{wordAt, wordsOf}
-use Rattle.engine.specs.Rows.{expandedWords}
-use Rattle.engine.proofs.Places.{Placed, placed-none, filled-more, stored-front}
+use Rattle.loops.specs.Rows.{expandedWords}
+use Rattle.loops.proofs.Places.{Placed, placed-none, filled-more, stored-front}
 use Rattle.lsh512.proofs.load_block.Statement.{statement}
 use Rattle.lsh512.proofs.load_block.Tie as tie
 

@@ -1,6 +1,6 @@
 -- `roll::read_index` meets its contract. Assumes nothing.
 use borrow.Author.Needs.{needs}
-use Rattle.engine.proofs.Words.{word-last, word-more}
+use Rattle.loops.proofs.Words.{word-last, word-more}
 use Rattle.roll.proofs.read_index.Statement.{statement}
 use Rattle.roll.proofs.read_index.Tie as tie
 

@@ -4,7 +4,7 @@ use Prim.Native.Nat.{_-_}
 use native.Mathlib.Omega.{arith}
 use Rattle.lsh.specs.Tabulate.{at}
 use Rattle.lsh.proofs.Tabulate.{tabulate-ext}
-use Rattle.engine.proofs.Places.{Placed, placed-none, filled-more, filled-all}
+use Rattle.loops.proofs.Places.{Placed, placed-none, filled-more, filled-all}
 use Rattle.runs.proofs.narrow.Statement.{statement}
 use Rattle.runs.proofs.narrow.Tie as tie
 

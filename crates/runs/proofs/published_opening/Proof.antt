@@ -4,7 +4,7 @@ use Prim.Native.Nat.{_+_, _-_, _*_}
 use native.Mathlib.Omega.{arith}
 use borrow.Author.Needs.{needs}
 use Rattle.lsh.specs.Tabulate.{at}
-use Rattle.engine.proofs.Places.{Placed, placed-none, filled-more, filled-all}
+use Rattle.loops.proofs.Places.{Placed, placed-none, filled-more, filled-all}
 use Rattle.runs.proofs.Published.{published}
 use Rattle.runs.proofs.published_opening.Statement.{statement}
 use Rattle.runs.proofs.published_opening.Tie as tie

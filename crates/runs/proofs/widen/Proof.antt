@@ -5,7 +5,7 @@ use native.Mathlib.Omega.{arith}
 use borrow.Author.Needs.{needs}
 use Rattle.lsh.specs.Tabulate.{at}
 use Rattle.lsh.proofs.Tabulate.{tabulate-ext}
-use Rattle.engine.proofs.Places.{Placed, placed-none, filled-more, filled-all}
+use Rattle.loops.proofs.Places.{Placed, placed-none, filled-more, filled-all}
 use Rattle.runs.proofs.widen.Statement.{statement}
 use Rattle.runs.proofs.widen.Tie as tie
 

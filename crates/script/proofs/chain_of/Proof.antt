@@ -4,7 +4,7 @@ use Prim.Native.Nat.{_-_, _*_}
 use native.Mathlib.Omega.{arith}
 use lib.ListN.{length}
 use borrow.Author.Needs.{needs}
-use Rattle.engine.proofs.Places.{Placed, placed-none, filled-more, filled-all}
+use Rattle.loops.proofs.Places.{Placed, placed-none, filled-more, filled-all}
 use Rattle.script.specs.Numbers.{highestFirst}
 use Rattle.script.proofs.chain_of.Statement.{statement}
 use Rattle.script.proofs.chain_of.Tie as tie

@@ -6,7 +6,7 @@ use Rattle.lsh.specs.Tabulate.{at}
 use Rattle.lsh.specs.WordSize.{sigma}
 use Rattle.lsh.specs.Step.{unpermute}
 use Rattle.lsh.proofs.Permutation.{sigma-permutes}
-use Rattle.engine.proofs.Places.{Placed, placed-none, scattered-more, scattered-all}
+use Rattle.loops.proofs.Places.{Placed, placed-none, scattered-more, scattered-all}
 use Rattle.steps256.proofs.unpermute.Statement.{statement}
 use Rattle.steps256.proofs.unpermute.Tie as tie
 

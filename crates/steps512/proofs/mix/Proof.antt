@@ -5,7 +5,7 @@ use native.Mathlib.Omega.{arith}
 use Rattle.lsh.specs.WordSize.{lsh512, alpha, beta, gamma}
 use Rattle.lsh.specs.Step.{mix, mixedLane}
 use Rattle.lsh.proofs.Figures.{amounts512}
-use Rattle.engine.proofs.Lanes.{Laned, laned-none, laned-more, laned-all, mixed-is}
+use Rattle.loops.proofs.Lanes.{Laned, laned-none, laned-more, laned-all, mixed-is}
 use Rattle.steps512.proofs.mix.Statement.{statement}
 use Rattle.steps512.proofs.mix.Tie as tie
 

@@ -2,7 +2,7 @@
 use native.Mathlib.Omega.{arith}
 use borrow.Author.Needs.{needs}
 use Rattle.lsh.specs.WordSize.{lsh512}
-use Rattle.engine.proofs.Constants.{at-constant}
+use Rattle.loops.proofs.Constants.{at-constant}
 use Rattle.steps512.proofs.step_constant.Statement.{statement}
 use Rattle.steps512.proofs.step_constant.Tie as tie
 

@@ -5,7 +5,7 @@ use native.Mathlib.Omega.{arith}
 use Rattle.lsh.specs.WordSize.{lsh512, alpha, beta, gamma}
 use Rattle.lsh.specs.Step.{unmix, unmixedLane}
 use Rattle.lsh.proofs.Figures.{amounts512}
-use Rattle.engine.proofs.Lanes.{Laned, laned-none, laned-more, laned-all, unmixed-is}
+use Rattle.loops.proofs.Lanes.{Laned, laned-none, laned-more, laned-all, unmixed-is}
 use Rattle.steps512.proofs.unmix.Statement.{statement}
 use Rattle.steps512.proofs.unmix.Tie as tie
 

@@ -4,7 +4,7 @@ use Prim.Native.Nat.{_-_}
 use native.Mathlib.Omega.{arith}
 use lib.ListN.{length}
 use borrow.Author.Needs.{needs}
-use Rattle.engine.proofs.Places.{Placed, placed-none, filled-more}
+use Rattle.loops.proofs.Places.{Placed, placed-none, filled-more}
 use Rattle.finalization.specs.Receipt.{receiptBytes}
 use Rattle.tally.specs.Tally.{mostReceipts, receiptCount, receiptAt}
 use Rattle.tally.specs.Checksum.{checksum}

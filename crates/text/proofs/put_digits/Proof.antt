@@ -2,7 +2,7 @@
 use mathlib.Core.Path.{refl}
 use Prim.Native.Nat.{_+_, _-_}
 use native.Mathlib.Omega.{arith}
-use Rattle.engine.proofs.Places.{Placed, placed-none, placed-more, stored-all}
+use Rattle.loops.proofs.Places.{Placed, placed-none, placed-more, stored-all}
 use Rattle.text.specs.Printed.{digitAt, digitsOf}
 use Rattle.text.proofs.put_digits.Statement.{statement}
 use Rattle.text.proofs.put_digits.Tie as tie

@@ -1,7 +1,7 @@
 -- `word32::rotate_left` meets its contract. Assumes nothing.
 use borrow.Author.Needs.{needs}
 use native.Mathlib.Omega.{arith}
-use Rattle.engine.proofs.Machine.{left-is, left-none}
+use Rattle.loops.proofs.Machine.{left-is, left-none}
 use Rattle.word32.proofs.rotate_left.Statement.{statement}
 use Rattle.word32.proofs.rotate_left.Tie as tie
 

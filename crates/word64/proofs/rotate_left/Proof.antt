@@ -1,7 +1,7 @@
 -- `word64::rotate_left` meets its contract. Assumes nothing.
 use borrow.Author.Needs.{needs}
 use native.Mathlib.Omega.{arith}
-use Rattle.engine.proofs.Machine.{left-is, left-none}
+use Rattle.loops.proofs.Machine.{left-is, left-none}
 use Rattle.word64.proofs.rotate_left.Statement.{statement}
 use Rattle.word64.proofs.rotate_left.Tie as tie
 

@@ -1,6 +1,6 @@
 -- `word64::subtract` meets its contract. Assumes nothing.
 use borrow.Author.Needs.{needs}
-use Rattle.engine.proofs.Machine.{sub-is}
+use Rattle.loops.proofs.Machine.{sub-is}
 use Rattle.word64.proofs.subtract.Statement.{statement}
 use Rattle.word64.proofs.subtract.Tie as tie
 

@@ -5,7 +5,7 @@ use mathlib.Core.List.{List}
 use Prim.Native.Nat.{ℕ}
 use Rattle.lsh.specs.WordSize.{WordSize}
 use Rattle.lsh.specs.Block.{unsteps, forwardSteps, backwardSteps}
-use Rattle.engine.specs.Rows.{Expanded}
+use Rattle.loops.specs.Rows.{Expanded}
 
 -- forward: with s steps every block whose M_0 to M_s stand in m leads from t to r
 pub record RunTo (z : WordSize) (m : List ℕ) (s : ℕ) (t r : List ℕ) : Type 0 where

@@ -9,8 +9,8 @@ use native.Mathlib.Omega.{arith}
 use Rattle.lsh.specs.WordSize.{WordSize}
 use Rattle.lsh.specs.Step.{addMessage, step, unstep}
 use Rattle.lsh.specs.Block.{steps, unsteps, forwardSteps, backwardSteps}
-use Rattle.engine.specs.Rows.{row, Expanded}
-use Rattle.engine.specs.Turns.{RunTo, RunBack}
+use Rattle.loops.specs.Rows.{row, Expanded}
+use Rattle.loops.specs.Turns.{RunTo, RunBack}
 
 -- forward: the steps 0 to j - 1 lead from t to r
 pub record Stepped (z : WordSize) (m : List ℕ) (s j : ℕ) (t r : List ℕ) : Type 0 where

@@ -14,7 +14,7 @@ use Rattle.lsh.specs.Tabulate.{at, tabulate}
 use Rattle.lsh.specs.WordSize.{WordSize, wordBytes}
 use Rattle.lsh.specs.Bytes.{wordAt, byteAt, bytesOf}
 use Rattle.lsh.proofs.Tabulate.{length-tabulate, at-tabulate, tabulate-ext}
-use Rattle.engine.proofs.Places.{at-sets-before, at-sets-in}
+use Rattle.loops.proofs.Places.{at-sets-before, at-sets-in}
 
 -- the last byte of a word, and a byte below the others
 pub word-last : (s : List ℕ) (a : ℕ) {b : ℕ} → b ≡ at s a → b ≡ wordAt 1 s a

@@ -12,8 +12,8 @@ use Rattle.lsh.specs.Tabulate.{at, tabulate}
 use Rattle.lsh.specs.WordSize.{WordSize}
 use Rattle.lsh.specs.Expansion.{nextSubMessage, subMessages, subMessage}
 use Rattle.lsh.proofs.Tabulate.{length-tabulate, tabulate-ext, tabulate-cong}
-use Rattle.engine.specs.Rows.{expandedWords, row, Expanded}
-use Rattle.engine.proofs.Places.{at-sets-before, at-sets-in}
+use Rattle.loops.specs.Rows.{expandedWords, row, Expanded}
+use Rattle.loops.proofs.Places.{at-sets-before, at-sets-in}
 
 -- a sub-message from the two before it (8)
 pub sub-next : (z : WordSize) (b : List ℕ) {p q r : List ℕ} (j : ℕ) → r ≡ nextSubMessage z p q → p ≡ subMessage z b (j + 1) → q ≡ subMessage z b j

@@ -15,8 +15,8 @@ use Rattle.lsh.specs.Word.{add, rotateLeft}
 use Rattle.lsh.specs.WordSize.{WordSize}
 use Rattle.lsh.specs.StepConstants.{constant, constants}
 use Rattle.lsh.proofs.Tabulate.{length-tabulate, at-tabulate, tabulate-ext, tabulate-cong}
-use Rattle.engine.specs.Constants.{four, fourConstants, nextFourConstants, withFourConstants}
-use Rattle.engine.proofs.Places.{at-sets-before, at-sets-after, at-sets-in}
+use Rattle.loops.specs.Constants.{four, fourConstants, nextFourConstants, withFourConstants}
+use Rattle.loops.proofs.Places.{at-sets-before, at-sets-after, at-sets-in}
 
 pub at-constant : (z : WordSize) (sc : List ℕ) → sc ≡ constants z → (j l : ℕ) → j < z .steps → l < 8 → at sc (j * 8 + l) ≡ constant z j l
 unfolding constants
