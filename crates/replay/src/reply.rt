@@ -17,7 +17,7 @@ use script::WIDE_CHAIN;
 // The most numbers that a line prints.
 const NUMBERS: usize = 5;
 
-// What comes behind the name of a line and its numbers: nothing, yes, no, a part of what the call was lent, two parts, or the words of the record.
+// What comes behind the name of a line and its numbers: nothing, yes, no, a part of what the call was lent, or the words of the record.
 pub const NAME: u64 = 0;
 
 const YES: u64 = 1;
@@ -26,25 +26,22 @@ const NO: u64 = 2;
 
 const LENT: u64 = 3;
 
-const TWO_LENT: u64 = 4;
-
-const RECORD: u64 = 5;
+const RECORD: u64 = 4;
 
 // A line that prints nothing, and, from TOO_LONG on, those that are no call.
-pub const NOTHING: u64 = 6;
+pub const NOTHING: u64 = 5;
 
-pub const TOO_LONG: u64 = 7;
+pub const TOO_LONG: u64 = 6;
 
-pub const NOT_A_CALL: u64 = 8;
+pub const NOT_A_CALL: u64 = 7;
 
-// The answer to a line: what it prints, with the first count of the numbers and a part of the buffer from which calls are lent, or two parts end to end,
-// the first up to the middle; and the record that is kept.
+// The answer to a line: what it prints, with the first count of the numbers and a part of the buffer from which calls are lent; and the record that is
+// kept.
 pub struct Reply {
     what: u64,
     count: usize,
     numbers: [u64; NUMBERS],
     from: u64,
-    middle: u64,
     to: u64,
     pub next: Record,
     // How many bytes the roll has after the line.
@@ -58,7 +55,6 @@ fn reply_of(what: u64, count: usize, numbers: [u64; NUMBERS], r: Record) -> Repl
         count: count,
         numbers: x,
         from: 0,
-        middle: 0,
         to: 0,
         next: r,
         roll: 0,
@@ -96,14 +92,6 @@ pub fn truth(answer: u32, is: bool, r: Record) -> Reply {
 pub fn output(number: u32, size: u64, r: Record) -> Reply {
     let mut c = reply_of(LENT, 1, [number as u64, 0, 0, 0, 0], r);
     c.to = size;
-    c
-}
-
-// Two outputs, of which the first ends at a place and the second at another.
-pub fn outputs(number: u32, first: u64, second: u64, r: Record) -> Reply {
-    let mut c = reply_of(TWO_LENT, 1, [number as u64, 0, 0, 0, 0], r);
-    c.middle = first;
-    c.to = second;
     c
 }
 
@@ -189,12 +177,6 @@ fn put_rest(line: &mut [u8], from: usize, c: Reply, lent: &[u8]) -> usize
     let what = c.what;
     match what {
         LENT => put_part(line, from, words::part(lent, c.from, c.to)),
-        TWO_LENT => put_two(
-            line,
-            from,
-            words::part(lent, c.from, c.middle),
-            words::part(lent, c.middle, c.to),
-        ),
         RECORD => put_record(line, from, c.next),
         _ => put_words(line, from, what),
     }
@@ -220,14 +202,6 @@ fn put_part(line: &mut [u8], from: usize, part: &[u8]) -> usize
 {
     let n = words::least(part.len(), BYTES);
     put_bytes(line, from, &part[0..n])
-}
-
-fn put_two(line: &mut [u8], from: usize, first: &[u8], second: &[u8]) -> usize
-    requires { ⌜ from + 2 * (2 + lineBytes) ≤ length (now line) ⌝ }
-    ensures { λ r. ⌜ r ≤ from + 2 * (2 + lineBytes) ⌝ }
-{
-    let a = put_part(line, from, first);
-    put_part(line, a, second)
 }
 
 // A space and bytes.
