@@ -40,7 +40,7 @@ key-block-spec =
     let key = z .args .key .now in
     let short : length (take (z .args .n / 8) (f .digest-on .result)) ≤ blockBytes (sizeOf (z .args .w)) =
     rw (length-take-le _ _ (inside f)) (digest-short _ _ (z .pre .0) (z .pre .1) (z .pre .2)) in
-    filled-front _ _ (c .zero-filled .ensures) short
+    filled-front _ (take (z .args .n / 8) (f .digest-on .result)) (c .zero-filled .ensures) short
     ∙ ap (zeroFilled (blockBytes (sizeOf (z .args .w))))
     (f .digest-on .ensures
     ∙ ap (λ (t : List ℕ). digestOn (z .args .w) (z .args .n) t key) (z .pre .3)
