@@ -21,7 +21,7 @@ use Rattle.append.specs.Append.{appendAccepted}
 use Rattle.checkpoints.specs.Due.{checkpointsAt}
 use Rattle.checkpoints.specs.Slots.{slotCount}
 use Rattle.checkpoints.specs.Roll.{links, checkpoints, isRollOf, rollAnswer}
-use Rattle.checkpoints.specs.Checkpoints.{laidAll}
+use Rattle.checkpoints.specs.Checkpoints.{insertedAll}
 use Rattle.checkpoints.proofs.Due.{due-many}
 use Rattle.checkpoints.proofs.Spacing.{no-fewer}
 use Rattle.checkpoints.proofs.Form.{roll-of}
@@ -30,7 +30,7 @@ use Rattle.append_roll.specs.AppendRoll.{due, isFull, appendRollAnswer, 
 
 -- a call that is accepted passed every test
 pub record Accepted (r : Record) (size : ℕ) (roll : List ℕ) : Type 0 where
-  pub taken : sound r ≡ true
+  pub soundRecord : sound r ≡ true
   pub idle : isBegun r ≡ false
   pub rollOf : isRollOf r roll ≡ true
   pub within : r .total + size ≤ limit
@@ -46,7 +46,7 @@ accepted r size roll e =
     let of = roll-passed r (isBegun r) roll (both .0) in
     let p = passed (λ (k : ℕ). k) (test over 5 ∷ test full 16 ∷ []) 0 refl (both .1) .0 in
     record {
-      taken = of .0;
+      soundRecord = of .0;
       idle = of .1;
       rollOf = of .2;
       within = ltb-false limit (r .total + size) (p 0);
@@ -75,7 +75,7 @@ few-blocks r p = omega (arith, div-le-self (r .total + length p) (blockBytes (si
 
 -- the roll with every checkpoint that is due
 abbrev pub goal-of : Record → List ℕ → List ℕ → List ℕ
-goal-of r piece roll = laidAll (sizeOf (r .w)) (checkpointsAt (chainAt r piece) (due r (length piece))) roll
+goal-of r piece roll = insertedAll (sizeOf (r .w)) (checkpointsAt (chainAt r piece) (due r (length piece))) roll
 
 -- the outcome and the roll by the number of the answer
 module _ (r : Record) (piece roll : List ℕ) {a : ℕ} (is : a ≡ appendRollAnswer r (length piece) roll) where

@@ -25,16 +25,16 @@ use Rattle.append.specs.Append.{appended, appendAccepted}
 use Rattle.append.proofs.Held.{total-is, rest-length, held-after}
 use Rattle.append.proofs.Joins.{append-joins}
 use Rattle.append.proofs.Sound.{appended-chain, appended-sound}
-use Rattle.roll.specs.declared.Way.{Way}
+use Rattle.roll.specs.declared.Traversal.{Traversal}
 use Rattle.checkpoints.specs.Slots.{slotCount}
 use Rattle.checkpoints.specs.Due.{checkpointsAt, spacing, dueNumbers}
 use Rattle.checkpoints.specs.Roll.{links, isRoll, checkpoints}
-use Rattle.checkpoints.specs.Checkpoints.{laid, laidAll}
-use Rattle.roll.specs.Way.{wayOf}
+use Rattle.checkpoints.specs.Checkpoints.{inserted, insertedAll}
+use Rattle.roll.specs.Traversal.{traversalOf}
 use Rattle.checkpoints.proofs.Due.{due-next, due-none}
 use Rattle.checkpoints.proofs.Spacing.{step, at-checkpoint, blocks-at, unreached, no-fewer-blocks, no-fewer}
 use Rattle.checkpoints.proofs.Form.{roll-of}
-use Rattle.checkpoints.proofs.Shown.{laid-size, laid-links, laid-roll}
+use Rattle.checkpoints.proofs.Shown.{inserted-size, inserted-links, inserted-roll}
 use Rattle.append_roll.specs.AppendRoll.{due, chainAt}
 use Rattle.append_roll.proofs.Answers.{Accepted, goal-of}
 
@@ -64,15 +64,15 @@ module _ (r : Record) (piece : List ℕ) where
   abbrev have : ℕ → ℕ
   have at = checkpoints (r .w) (r .total + at)
 
-  -- the roll s with the checkpoint after at bytes laid, and with those that are still due then
-  abbrev pub laid-at : ℕ → List ℕ → List ℕ
-  laid-at at s = laid Z (record { number = blocks-after at; chain = so-far at .chain }) s
+  -- the roll s with the checkpoint after at bytes inserted, and with those that are still due then
+  abbrev pub inserted-at : ℕ → List ℕ → List ℕ
+  inserted-at at s = inserted Z (record { number = blocks-after at; chain = so-far at .chain }) s
 
   abbrev left : ℕ → List ℕ
   left at = dueNumbers (blocks-after at) (blocks-after (length piece))
 
   abbrev pub due-after : ℕ → List ℕ → List ℕ
-  due-after at s = laidAll Z (checkpointsAt (chainAt r piece) (left at)) s
+  due-after at s = insertedAll Z (checkpointsAt (chainAt r piece) (left at)) s
 
   -- the roll after at bytes, where it was start after some
   pub record Stage (start : ℕ) (from : List ℕ) (at : ℕ) (now : List ℕ) : Type 0 where
@@ -83,11 +83,11 @@ module _ (r : Record) (piece : List ℕ) where
     pub rest : due-after at now ≡ due-after start from
 
   -- and what goes with it at a checkpoint: the chain, the blocks run, and what is known of the roll
-  pub record Parted (start : ℕ) (from : List ℕ) (chain : List ℕ) (count : ℕ) (known : Way) (at : ℕ) (now : List ℕ) : Type 0 where
+  pub record Parted (start : ℕ) (from : List ℕ) (chain : List ℕ) (count : ℕ) (known : Traversal) (at : ℕ) (now : List ℕ) : Type 0 where
     pub stage : Stage start from at now
     pub reached : chain ≡ so-far at .chain
     pub blocks : count ≡ (r .total + at) / B - r .total / B
-    pub way : known ≡ wayOf Z now
+    pub traversal : known ≡ traversalOf Z now
     pub place : r .total + at ≡ have at * Q
 
   module _ {roll : List ℕ} (e : Entry roll) where
@@ -146,7 +146,7 @@ module _ (r : Record) (piece : List ℕ) where
       part-length = length-take-le size (drop at piece) (omega (arith, length-drop at piece))
 
       part-joins : appended (so-far at) part ≡ so-far (at + size)
-      part-joins = append-joins r (sounds r (e .pass .taken) .word) (e .long) (take at piece) part ∙ ap (appended r) (sym (take-add at size piece))
+      part-joins = append-joins r (sounds r (e .pass .soundRecord) .word) (e .long) (take at piece) part ∙ ap (appended r) (sym (take-add at size piece))
 
       -- the blocks run so far and those of the part
       part-count : ((r .total + at) / B - r .total / B) + (appendAccepted (so-far at) part .count) ≡ (r .total + (at + size)) / B - r .total / B
@@ -165,12 +165,12 @@ module _ (r : Record) (piece : List ℕ) where
         record { upTo = zero-le; form = roll-of r roll (e .pass .rollOf) .0; room = omega (arith, e .pass .room, ap length start-left); same = refl; rest = refl }
 
     goal-is : due-after 0 roll ≡ goal-of r piece roll
-    goal-is = ap (λ (l : List ℕ). laidAll Z (checkpointsAt (chainAt r piece) l) roll) start-left
+    goal-is = ap (λ (l : List ℕ). insertedAll Z (checkpointsAt (chainAt r piece) l) roll) start-left
 
     -- the record so far is taken by Append, with what is left of the piece
     pub so-far-sound : (at : ℕ) → at ≤ length piece → sound (so-far at) ≡ true
     so-far-sound at le =
-        appended-sound r (e .pass .taken) (e .words) (e .long) (take at piece) (e .pass .idle) (omega (arith, length-take-le at piece le, e .pass .within))
+        appended-sound r (e .pass .soundRecord) (e .words) (e .long) (take at piece) (e .pass .idle) (omega (arith, length-take-le at piece le, e .pass .within))
 
     -- the next checkpoint is after end bytes
     module _ {start : ℕ} {from : List ℕ} {at : ℕ} {now : List ℕ} (p : Stage start from at now) (end : ℕ) (next : r .total + end ≡ (have at + 1) * Q) where
@@ -191,22 +191,22 @@ module _ (r : Record) (piece : List ℕ) where
         part-room : length (links Z now) < slotCount Z (length now)
         part-room = omega (arith, p .room, ap length left-next)
 
-        stage-more : {now' : List ℕ} → now' ≡ laid-at end now → Stage start from end now'
+        stage-more : {now' : List ℕ} → now' ≡ inserted-at end now → Stage start from end now'
         stage-more {now'} is =
             let ok8 = octets (r .w) in
             let there = chain-there end le in
-            let t-chain = appended-chain r (e .pass .taken) (e .words) (e .long) (take end piece) in
-            let size-is : length now' ≡ length now = ap length is ∙ laid-size Z ok8 now (p .form) part-room _ t-chain in
+            let t-chain = appended-chain r (e .pass .soundRecord) (e .words) (e .long) (take end piece) in
+            let size-is : length now' ≡ length now = ap length is ∙ inserted-size Z ok8 now (p .form) part-room _ t-chain in
             let many : length (links Z now') ≡ length (links Z now) + 1 =
-            ap (λ (s : List ℕ). length (links Z s)) is ∙ ap length (laid-links Z ok8 now (p .form) part-room _ t-chain) ∙ length-append (links Z now) _ in
+            ap (λ (s : List ℕ). length (links Z s)) is ∙ ap length (inserted-links Z ok8 now (p .form) part-room _ t-chain) ∙ length-append (links Z now) _ in
             record {
               upTo = le;
-              form = ap (isRoll Z) is ∙ laid-roll Z ok8 now (p .form) part-room _ t-chain;
+              form = ap (isRoll Z) is ∙ inserted-roll Z ok8 now (p .form) part-room _ t-chain;
               room = omega (arith, p .room, many, ap length left-next, ap (slotCount Z) size-is);
               same = size-is ∙ p .same;
               rest =
-                  ap (due-after end) (is ∙ ap (λ (c : List ℕ). laid Z (record { number = blocks-after end; chain = c }) now) there)
-                  ∙ ap (λ (l : List ℕ). laidAll Z (checkpointsAt (chainAt r piece) l) now) (sym left-next)
+                  ap (due-after end) (is ∙ ap (λ (c : List ℕ). inserted Z (record { number = blocks-after end; chain = c }) now) there)
+                  ∙ ap (λ (l : List ℕ). insertedAll Z (checkpointsAt (chainAt r piece) l) now) (sym left-next)
                   ∙ p .rest;
             }
 
@@ -216,7 +216,7 @@ module _ (r : Record) (piece : List ℕ) where
       stage-end less =
           let none-left : left at ≡ [] =
           due-none (blocks-after at) (blocks-after (length piece)) (omega (arith, unreached (r .w) (have at + 1) (r .total + length piece) (omega arith))) in
-          ap (λ (l : List ℕ). laidAll Z (checkpointsAt (chainAt r piece) l) now) (sym none-left) ∙ p .rest
+          ap (λ (l : List ℕ). insertedAll Z (checkpointsAt (chainAt r piece) l) now) (sym none-left) ∙ p .rest
 
     -- the first part
     module _ (first : ℕ) (next : r .total + first ≡ (checkpoints (r .w) (r .total) + 1) * Q) where
@@ -231,12 +231,12 @@ module _ (r : Record) (piece : List ℕ) where
         pub first-room : length (links Z roll) < slotCount Z (length roll)
         first-room = part-room stage-none first next-first le
 
-        first-stage : {now : List ℕ} → now ≡ laid-at first roll → Stage 0 roll first now
+        first-stage : {now : List ℕ} → now ≡ inserted-at first roll → Stage 0 roll first now
         first-stage = stage-more stage-none first next-first le
 
-        pub first-parted : {chain : List ℕ} {count : ℕ} {known : Way} {now : List ℕ}
+        pub first-parted : {chain : List ℕ} {count : ℕ} {known : Traversal} {now : List ℕ}
             → chain ≡ so-far first .chain → count ≡ appendAccepted r (take first piece) .count
-            → now ≡ laid-at first roll → known ≡ wayOf Z now
+            → now ≡ inserted-at first roll → known ≡ traversalOf Z now
             → Parted first now chain count known first now
         unfolding appendAccepted
         first-parted {chain} {count} {known} {now} ec en el ek =
@@ -245,21 +245,21 @@ module _ (r : Record) (piece : List ℕ) where
               stage = record { upTo = le; form = s .form; room = s .room; same = refl; rest = refl };
               reached = ec;
               blocks = en ∙ ap (λ (n : ℕ). (r .total + n) / B - r .total / B) (length-take-le first piece le);
-              way = ek;
+              traversal = ek;
               place = place-next stage-none first next-first;
             }
 
         -- what is due then gives the roll that is wanted
-        pub first-rest : {now : List ℕ} → now ≡ laid-at first roll → (length now ≡ length roll) × (due-after first now ≡ goal-of r piece roll)
+        pub first-rest : {now : List ℕ} → now ≡ inserted-at first roll → (length now ≡ length roll) × (due-after first now ≡ goal-of r piece roll)
         first-rest el = (first-stage el .same, first-stage el .rest ∙ goal-is)
 
     -- the further parts
-    module _ {start : ℕ} {from : List ℕ} {chain : List ℕ} {count : ℕ} {known : Way} {at : ℕ} {now : List ℕ} (p : Parted start from chain count known at now) where
+    module _ {start : ℕ} {from : List ℕ} {chain : List ℕ} {count : ℕ} {known : Traversal} {at : ℕ} {now : List ℕ} (p : Parted start from chain count known at now) where
       next-place : r .total + (at + Q) ≡ (have at + 1) * Q
       next-place = omega (arith, p .place)
 
       pub chain-ok : Chain Z chain
-      chain-ok = subst (Chain Z) (sym (p .reached)) (appended-chain r (e .pass .taken) (e .words) (e .long) (take at piece))
+      chain-ok = subst (Chain Z) (sym (p .reached)) (appended-chain r (e .pass .soundRecord) (e .words) (e .long) (take at piece))
 
       pub count-few : count ≤ r .total + at
       count-few = omega (arith, p .blocks, div-le-self (r .total + at) B)
@@ -276,19 +276,19 @@ module _ (r : Record) (piece : List ℕ) where
               ∙ sym (goes-on at (p .stage .upTo) (have at) (p .place) (part at Q le))
               ∙ ap (λ (o : Record). o .chain) (part-joins at Q le)
 
-          pub parted-more : {end : ℕ} {chain' : List ℕ} {count' : ℕ} {known' : Way} {now' : List ℕ}
+          pub parted-more : {end : ℕ} {chain' : List ℕ} {count' : ℕ} {known' : Traversal} {now' : List ℕ}
               → end ≡ at + Q
               → chain' ≡ forwards Z (blocksOf Z given) chain
               → count' ≡ count + length given / B
-              → ((k : ℕ) → now' ≡ laid Z (record { number = k; chain = chain' }) now)
-              → known' ≡ wayOf Z now'
+              → ((k : ℕ) → now' ≡ inserted Z (record { number = k; chain = chain' }) now)
+              → known' ≡ traversalOf Z now'
               → Parted start from chain' count' known' end now'
           parted-more {end} {chain'} {count'} {known'} {now'} ee ec en el ek =
               let there = ec ∙ chain-is-next in
               subst (λ (n : ℕ). Parted start from chain' count' known' n now') (sym ee)
               (record {
                 stage = stage-more (p .stage) (at + Q) next-place le
-                    (el (blocks-after (at + Q)) ∙ ap (λ (c : List ℕ). laid Z (record { number = blocks-after (at + Q); chain = c }) now) there);
+                    (el (blocks-after (at + Q)) ∙ ap (λ (c : List ℕ). inserted Z (record { number = blocks-after (at + Q); chain = c }) now) there);
                 reached = there;
                 blocks =
                     en
@@ -302,7 +302,7 @@ module _ (r : Record) (piece : List ℕ) where
                       ap (λ (n : ℕ). n / B) (sym (add-assoc (r .total) at Q)),
                       add-mul-div-right (r .total + at) spacing (block-some (r .w)),
                     );
-                way = ek;
+                traversal = ek;
                 place = place-next (p .stage) (at + Q) next-place;
               })
 

@@ -22,7 +22,7 @@ use Rattle.checkpoints.specs.Members.{member}
 use Rattle.checkpoints.specs.Roll.{links, shown, checkpoints, isRollOf}
 use Rattle.checkpoints.proofs.Due.{due-many}
 use Rattle.checkpoints.proofs.Form.{roll-of}
-use Rattle.checkpoints.proofs.Shown.{Laid, laid-all}
+use Rattle.checkpoints.proofs.Shown.{Inserted, inserted-all}
 use Rattle.append_roll.specs.AppendRoll.{due, appendRollAnswer, chainAt, appendedRoll}
 use Rattle.append_roll.proofs.Answers.{Accepted, accepted, goal-of, refused-call, accepted-call}
 
@@ -32,16 +32,16 @@ module _ (r : Record) (chain : Chain (sizeOf (r .w)) (r .chain)) (piece roll : L
   unfolding chainAt
   chains j = after-chain (sizeOf (r .w)) (r .chain) (heldBytes r ++ piece) (amounts (r .w)) chain (j - r .total / blockBytes (sizeOf (r .w)))
 
-  pub laid-due : isRollOf r roll ≡ true
+  pub inserted-due : isRollOf r roll ≡ true
       → length (links (sizeOf (r .w)) roll) + length (due r (length piece)) ≤ slotCount (sizeOf (r .w)) (length roll)
-      → Laid (sizeOf (r .w)) (octets (r .w)) (chainAt r piece) chains roll (due r (length piece)) (goal-of r piece roll)
+      → Inserted (sizeOf (r .w)) (octets (r .w)) (chainAt r piece) chains roll (due r (length piece)) (goal-of r piece roll)
   unfolding due dueNumbers checkpoints
-  laid-due of room =
+  inserted-due of room =
       let Z = sizeOf (r .w) in
       let old : ℕ = r .total / blockBytes Z in
       let new : ℕ = (r .total + length piece) / blockBytes Z in
       let is = roll-of r roll of in
-      laid-all Z (octets (r .w)) (chainAt r piece) chains (new / spacing - old / spacing) (old / spacing) roll (is .0) (is .1) (omega (arith, room, is .1, due-many old new))
+      inserted-all Z (octets (r .w)) (chainAt r piece) chains (new / spacing - old / spacing) (old / spacing) roll (is .0) (is .1) (omega (arith, room, is .1, due-many old new))
 
 module _ (r : Record) (words : length (r .chain) ≡ 16) (piece roll : List ℕ) where
   abbrev Z : WordSize
@@ -52,12 +52,12 @@ module _ (r : Record) (words : length (r .chain) ≡ 16) (piece roll : List ℕ)
     pass = accepted r (length piece) roll taken
 
     chain : Chain Z (r .chain)
-    chain = let is = sounds r (pass .taken) in chain-is (r .w) (r .chain) (is .word) words (is .below)
+    chain = let is = sounds r (pass .soundRecord) in chain-is (r .w) (r .chain) (is .word) words (is .below)
 
-    all : Laid Z (octets (r .w)) (chainAt r piece) (chains r chain piece roll) roll (due r (length piece)) (appendedRoll r piece roll)
+    all : Inserted Z (octets (r .w)) (chainAt r piece) (chains r chain piece roll) roll (due r (length piece)) (appendedRoll r piece roll)
     all =
-        subst (Laid Z (octets (r .w)) (chainAt r piece) (chains r chain piece roll) roll (due r (length piece))) (accepted-call r piece roll refl taken .1)
-        (laid-due r chain piece roll (pass .rollOf) (pass .room))
+        subst (Inserted Z (octets (r .w)) (chainAt r piece) (chains r chain piece roll) roll (due r (length piece))) (accepted-call r piece roll refl taken .1)
+        (inserted-due r chain piece roll (pass .rollOf) (pass .room))
 
     pub appended-shown : shown Z (appendedRoll r piece roll) ≡ shown Z roll ++ checkpointsAt (chainAt r piece) (due r (length piece))
     appended-shown = all .shows

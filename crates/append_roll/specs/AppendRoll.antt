@@ -17,7 +17,7 @@ use Rattle.append.specs.Append.{appendAccepted}
 use Rattle.checkpoints.specs.Due.{checkpointsAt, dueNumbers}
 use Rattle.checkpoints.specs.Slots.{slotCount}
 use Rattle.checkpoints.specs.Roll.{links, rollAnswer}
-use Rattle.checkpoints.specs.Checkpoints.{laidAll, ifAccepted}
+use Rattle.checkpoints.specs.Checkpoints.{insertedAll, ifAccepted}
 
 -- the numbers of the checkpoints that are due with size bytes more
 unfoldable pub due : Record → ℕ → List ℕ
@@ -44,7 +44,7 @@ appendRollCall r piece roll = answered (appendRollAnswer r (length piece) roll) 
 unfoldable pub chainAt : Record → List ℕ → ℕ → List ℕ
 chainAt r piece k = chainAfter (sizeOf (r .w)) (r .chain) (heldBytes r ++ piece) (k - r .total / blockBytes (sizeOf (r .w)))
 
--- the roll after the call: each checkpoint that is due is laid, in order
+-- the roll after the call: each checkpoint that is due is inserted, in order
 unfoldable pub appendedRoll : Record → List ℕ → List ℕ → List ℕ
 appendedRoll r piece roll =
-    ifAccepted (appendRollCall r piece roll) (laidAll (sizeOf (r .w)) (checkpointsAt (chainAt r piece) (due r (length piece))) roll) roll
+    ifAccepted (appendRollCall r piece roll) (insertedAll (sizeOf (r .w)) (checkpointsAt (chainAt r piece) (due r (length piece))) roll) roll

@@ -1,4 +1,4 @@
-// Append with a roll: a piece is added to an order in parts that end at every 64th block, and a checkpoint is laid at each.
+// Append with a roll: a piece is added to an order in parts that end at every 64th block, and a checkpoint is inserted at each.
 ghost use mathlib.Core.Path.{_≡_};
 ghost use mathlib.Core.Bool.{true};
 ghost use mathlib.Core.List.{List, []};
@@ -15,19 +15,19 @@ ghost use Rattle.checkpoints.specs.Due.{spacing};
 ghost use Rattle.checkpoints.specs.Slots.{slotCount};
 ghost use Rattle.checkpoints.specs.Roll.{links, isRoll, checkpoints};
 ghost use Rattle.checkpoints.specs.FreeSlot.{freeSlot, FreeChoice};
-ghost use Rattle.checkpoints.specs.Checkpoints.{laid};
-ghost use Rattle.roll.specs.Way.{wayOf};
+ghost use Rattle.checkpoints.specs.Checkpoints.{inserted};
+ghost use Rattle.roll.specs.Traversal.{traversalOf};
 ghost use Rattle.append_roll.specs.AppendRoll.{appendRollAnswer, appendRollCall, appendedRoll};
 use record::Outcome;
 use record::Record;
 use roll::SPACING;
-use roll::Way;
+use roll::Traversal;
 
 // An order at a checkpoint within a piece: the chain there, how many blocks were run, and what is known of the roll.
 struct Progress {
     chain: [u64; 16],
     count: u64,
-    known: Way,
+    known: Traversal,
 }
 
 // The record after the piece. Which slot a checkpoint takes is the choice freeSlot, of which FreeChoice says what holds.
@@ -43,8 +43,8 @@ pub fn append_roll(r: Record, piece: &[u8], roll: &mut [u8]) -> Outcome
 }
 
 // The number of the answer, where y is what is known of the roll.
-fn answer(r: Record, size: usize, y: Way) -> u32
-    ensures { λ a. ⌜ ((roll : List ℕ) → y ≡ wayOf (sizeOf (r .w)) roll → a ≡ appendRollAnswer r size roll) ⌝ }
+fn answer(r: Record, size: usize, y: Traversal) -> u32
+    ensures { λ a. ⌜ ((roll : List ℕ) → y ≡ traversalOf (sizeOf (r .w)) roll → a ≡ appendRollAnswer r size roll) ⌝ }
 {
     let a = roll::turn(r, record::is_begun(r), y);
     if a != 0 {
@@ -62,8 +62,8 @@ fn answer(r: Record, size: usize, y: Way) -> u32
 }
 
 // The answer where the tests are passed.
-fn append_parts(r: Record, piece: &[u8], roll: &mut [u8], y: Way) -> Outcome
-    requires { ⌜ (appendRollAnswer r (length (now piece)) (now roll) ≡ 0) × (y ≡ wayOf (sizeOf (r .w)) (now roll)) ⌝ }
+fn append_parts(r: Record, piece: &[u8], roll: &mut [u8], y: Traversal) -> Outcome
+    requires { ⌜ (appendRollAnswer r (length (now piece)) (now roll) ≡ 0) × (y ≡ traversalOf (sizeOf (r .w)) (now roll)) ⌝ }
     ensures { λ o. ⌜ (o ≡ appendAccepted r (now (piece .entry))) × (now (roll .exit) ≡ appendedRoll r (now (piece .entry)) (now (roll .entry))) ⌝ }
 {
     let first = to_checkpoint(r.w, r.total);
@@ -97,20 +97,20 @@ fn between_checkpoints(w: u64) -> usize
     SPACING as usize * runs::block_bytes(w)
 }
 
-// The part up to the first checkpoint, which is laid.
-fn first_part(r: Record, part: &[u8], roll: &mut [u8], y: Way) -> Progress
+// The part up to the first checkpoint, which is inserted.
+fn first_part(r: Record, part: &[u8], roll: &mut [u8], y: Traversal) -> Progress
     requires { ⌜ (sound r ≡ true) × (r .total + length (now part) ≤ limit)
-        × (isRoll (sizeOf (r .w)) (now roll) ≡ true) × (y ≡ wayOf (sizeOf (r .w)) (now roll))
+        × (isRoll (sizeOf (r .w)) (now roll) ≡ true) × (y ≡ traversalOf (sizeOf (r .w)) (now roll))
         × (length (links (sizeOf (r .w)) (now roll)) < slotCount (sizeOf (r .w)) (length (now roll))) ⌝ }
     ensures { λ q. ⌜ (q .chain ≡ appended r (now (part .entry)) .chain)
         × (q .count ≡ appendAccepted r (now (part .entry)) .count)
-        × ((k : ℕ) → now (roll .exit) ≡ laid (sizeOf (r .w)) (record { number = k; chain = appended r (now (part .entry)) .chain }) (now (roll .entry)))
-        × (q .known ≡ wayOf (sizeOf (r .w)) (now (roll .exit))) ⌝ }
+        × ((k : ℕ) → now (roll .exit) ≡ inserted (sizeOf (r .w)) (record { number = k; chain = appended r (now (part .entry)) .chain }) (now (roll .entry)))
+        × (q .known ≡ traversalOf (sizeOf (r .w)) (now (roll .exit))) ⌝ }
 {
     let o = append::accepted(r, part);
     let next = o.next;
     let chain = next.chain;
-    let known = roll::lay(r.w, y, roll, chain);
+    let known = roll::insert(r.w, y, roll, chain);
     Progress {
         chain: chain,
         count: o.count,
@@ -118,21 +118,21 @@ fn first_part(r: Record, part: &[u8], roll: &mut [u8], y: Way) -> Progress
     }
 }
 
-// A part from a checkpoint to the next, which is laid. Its blocks are run straight from the piece.
+// A part from a checkpoint to the next, which is inserted. Its blocks are run straight from the piece.
 fn next_part(w: u64, p: Progress, part: &[u8], roll: &mut [u8]) -> Progress
     requires { ⌜ (isWordSize w ≡ true) × Chain (sizeOf w) (p .chain) × (p .count + length (now part) ≤ limit)
-        × (isRoll (sizeOf w) (now roll) ≡ true) × (p .known ≡ wayOf (sizeOf w) (now roll))
+        × (isRoll (sizeOf w) (now roll) ≡ true) × (p .known ≡ traversalOf (sizeOf w) (now roll))
         × (length (links (sizeOf w) (now roll)) < slotCount (sizeOf w) (length (now roll))) ⌝ }
     ensures { λ q. ⌜ (q .chain ≡ forwards (sizeOf w) (blocksOf (sizeOf w) (now (part .entry))) (p .chain))
         × (q .count ≡ p .count + length (now (part .entry)) / blockBytes (sizeOf w))
-        × ((k : ℕ) → now (roll .exit) ≡ laid (sizeOf w) (record { number = k; chain = q .chain }) (now (roll .entry)))
-        × (q .known ≡ wayOf (sizeOf w) (now (roll .exit))) ⌝ }
+        × ((k : ℕ) → now (roll .exit) ≡ inserted (sizeOf w) (record { number = k; chain = q .chain }) (now (roll .entry)))
+        × (q .known ≡ traversalOf (sizeOf w) (now (roll .exit))) ⌝ }
 {
     let before = p.chain;
     let known = p.known;
     let run = runs::forward(w, before, part);
     let chain = run.chain;
-    let y = roll::lay(w, known, roll, chain);
+    let y = roll::insert(w, known, roll, chain);
     Progress {
         chain: chain,
         count: p.count + run.count as u64,

@@ -1,4 +1,4 @@
--- What the tests of a roll say, and that a way that ends in it passes them.
+-- What the tests of a roll say, and that a walk that ends in it passes them.
 -- Assumes nothing.
 use mathlib.Core.Path.{_≡_, refl, ap, _∙_}
 use mathlib.Core.Bool.{true, false, not, _&&_, false≢true}
@@ -18,7 +18,7 @@ use Rattle.checkpoints.specs.Slots.{indexBytes, mostSlots, slotBytes, ro
 use Rattle.checkpoints.specs.Members.{member, repeats, allUpTo}
 use Rattle.checkpoints.specs.Roll.{newRoll, nextIndex, links, checkpointsIn, shown, isRoll, checkpoints, isRollOf}
 use Rattle.checkpoints.proofs.Members.{each-up-to, all-up-to, distinct-few}
-use Rattle.checkpoints.proofs.Ways.{Leads, met-leads, leads-met, met-some}
+use Rattle.checkpoints.proofs.Traversals.{Leads, visited-leads, leads-visited, visited-some}
 
 module _ (z : WordSize) where
   -- a buffer of right length
@@ -36,21 +36,21 @@ module _ (z : WordSize) where
       let q : (leb 1 k ≡ true) × (leb k mostSlots ≡ true) = and-true (leb 1 k) (leb k mostSlots) (p .0) in
       record { some = leb-true 1 k (q .0); most = leb-true k mostSlots (q .1); size = eqb-true (length s) (rollBytes z k) (p .1) }
 
-  -- a roll: the way of its links, which ends, and has each slot once
+  -- a roll: the walk of its links, which ends, and has each slot once
   pub record Linked (s : List ℕ) : Type 0 where
     pub right : isRollLength z (length s) ≡ true
     pub distinct : repeats (links z s) ≡ false
     pub within : (x : ℕ) → member x (links z s) ≡ true → (0 < x) × (x ≤ slotCount z (length s))
     pub few : length (links z s) ≤ slotCount z (length s)
-    pub way : Leads (nextIndex z s) (nextIndex z s 0) (links z s)
+    pub traversal : Leads (nextIndex z s) (nextIndex z s 0) (links z s)
 
-  met-way : (s : List ℕ) → length (links z s) ≤ slotCount z (length s) → Leads (nextIndex z s) (nextIndex z s 0) (links z s)
+  visited-traversal : (s : List ℕ) → length (links z s) ≤ slotCount z (length s) → Leads (nextIndex z s) (nextIndex z s 0) (links z s)
   unfolding links
-  met-way s few = leads-met (nextIndex z s) (suc (slotCount z (length s))) (nextIndex z s 0) (omega arith)
+  visited-traversal s few = leads-visited (nextIndex z s) (suc (slotCount z (length s))) (nextIndex z s 0) (omega arith)
 
   pub links-some : (s : List ℕ) (x : ℕ) → member x (links z s) ≡ true → 0 < x
   unfolding links
-  links-some s x h = met-some (nextIndex z s) (suc (slotCount z (length s))) (nextIndex z s 0) x h
+  links-some s x h = visited-some (nextIndex z s) (suc (slotCount z (length s))) (nextIndex z s 0) x h
 
   pub linked : (s : List ℕ) → isRoll z s ≡ true → Linked s
   unfolding isRoll
@@ -62,15 +62,15 @@ module _ (z : WordSize) where
       let d : repeats (links z s) ≡ false = not-true (repeats (links z s)) (p .1) in
       let each : (x : ℕ) → member x (links z s) ≡ true → (0 < x) × (x ≤ k) = λ x h. (links-some s x h, each-up-to k (links z s) (q .1) x h) in
       let few : length (links z s) ≤ k = distinct-few k (links z s) d each in
-      record { right = q .0; distinct = d; within = each; few = few; way = met-way s few }
+      record { right = q .0; distinct = d; within = each; few = few; traversal = visited-traversal s few }
 
-  -- a buffer of right length in which the way from the head is l, and has each slot once
-  module _ (s l : List ℕ) (right : isRollLength z (length s) ≡ true) (way : Leads (nextIndex z s) (nextIndex z s 0) l)
+  -- a buffer of right length in which the walk from the head is l, and has each slot once
+  module _ (s l : List ℕ) (right : isRollLength z (length s) ≡ true) (traversal : Leads (nextIndex z s) (nextIndex z s 0) l)
       (distinct : repeats l ≡ false) (within : (x : ℕ) → member x l ≡ true → (0 < x) × (x ≤ slotCount z (length s))) where
     pub links-are : links z s ≡ l
     unfolding links
     links-are =
-        met-leads (nextIndex z s) l (suc (slotCount z (length s))) (nextIndex z s 0) way
+        visited-leads (nextIndex z s) l (suc (slotCount z (length s))) (nextIndex z s 0) traversal
         (omega (arith, distinct-few (slotCount z (length s)) l distinct within))
 
     pub is-roll : isRoll z s ≡ true
@@ -100,19 +100,19 @@ module _ (z : WordSize) where
     new-right : isRollLength z (length (newRoll z k)) ≡ true
     new-right = ap (isRollLength z) new-size ∙ right-length
 
-    new-way : Leads (nextIndex z (newRoll z k)) (nextIndex z (newRoll z k) 0) []
+    new-traversal : Leads (nextIndex z (newRoll z k)) (nextIndex z (newRoll z k) 0) []
     unfolding nextIndex newRoll indexPlace wordAt
-    new-way = rw (at-zeros (rollBytes z k) 0, at-zeros (rollBytes z k) 1)
+    new-traversal = rw (at-zeros (rollBytes z k) 0, at-zeros (rollBytes z k) 1)
 
     new-links : links z (newRoll z k) ≡ []
-    new-links = links-are (newRoll z k) [] new-right new-way refl (λ x h. absurd (false≢true h))
+    new-links = links-are (newRoll z k) [] new-right new-traversal refl (λ x h. absurd (false≢true h))
 
     pub new-shown : shown z (newRoll z k) ≡ []
     unfolding shown
     new-shown = ap (checkpointsIn z (newRoll z k) 1) new-links
 
     pub new-roll : isRoll z (newRoll z k) ≡ true
-    new-roll = is-roll (newRoll z k) [] new-right new-way refl (λ x h. absurd (false≢true h))
+    new-roll = is-roll (newRoll z k) [] new-right new-traversal refl (λ x h. absurd (false≢true h))
 
 -- a roll of a record: it is a roll, with a link for each of the record's checkpoints
 pub roll-of : (r : Record) (s : List ℕ) → isRollOf r s ≡ true

@@ -1,7 +1,7 @@
 -- Laws of rolls.
 pub mod Due
 pub mod Members
-pub mod Ways
+pub mod Traversals
 pub mod Places
 pub mod Writes
 pub mod Form

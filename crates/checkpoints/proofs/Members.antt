@@ -38,7 +38,7 @@ member-at [] m h = absurd (omega arith)
 member-at (x ∷ l) zero h = member-here x l
 member-at (x ∷ l) (suc m) h = one-there eqb (at l m) x l (member-at l m (omega arith))
 
--- a number met again shows in any longer part
+-- a number visited again shows in any longer part
 pub repeats-again : (m : ℕ) (l : List ℕ) → m < length l → member (at l m) (take m l) ≡ true → repeats l ≡ true
 repeats-again m [] h e = absurd (omega arith)
 repeats-again zero (x ∷ l) h e = absurd (false≢true e)

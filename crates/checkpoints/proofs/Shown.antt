@@ -1,4 +1,4 @@
--- What a roll shows after a checkpoint was laid, and after links were taken off. Of the slot taken only what holds of a free choice is used.
+-- What a roll shows after a checkpoint was inserted, and after links were taken off. Of the slot taken only what holds of a free choice is used.
 -- Assumes nothing.
 use mathlib.Core.Path.{_≡_, refl, sym, ap, ap₂, _∙_, subst}
 use mathlib.Core.Bool.{Bool, true, false, cond}
@@ -23,10 +23,10 @@ use Rattle.checkpoints.specs.Slots.{slotCount, isRollLength, slotAt}
 use Rattle.checkpoints.specs.Members.{member, repeats}
 use Rattle.checkpoints.specs.Roll.{nextIndex, links, chainIn, checkpointsIn, shown, isRoll}
 use Rattle.checkpoints.specs.FreeSlot.{Unlinked, FreeChoice}
-use Rattle.checkpoints.specs.Checkpoints.{withIndex, withSlot, leadTo, taken, laid, laidAll, unlinked, cutTo}
+use Rattle.checkpoints.specs.Checkpoints.{withIndex, withSlot, leadTo, taken, inserted, insertedAll, unlinked, cutTo}
 use Rattle.checkpoints.proofs.Due.{multiples-many, first-up-to}
 use Rattle.checkpoints.proofs.Members.{eqb-equivalence, apart, member-here, member-cases, member-at, free-choice}
-use Rattle.checkpoints.proofs.Ways.{Leads, relinked}
+use Rattle.checkpoints.proofs.Traversals.{Leads, relinked}
 use Rattle.checkpoints.proofs.Writes.{index-size, next-is, next-other, chain-kept, slot-size, slot-next, slot-next-other, slot-chain, slot-chain-other, slot-kept, slot-kept-other}
 use Rattle.checkpoints.proofs.Form.{Sized, sized, Linked, linked, links-are, is-roll}
 
@@ -102,7 +102,7 @@ module _ (z : WordSize) (ok : Octets z) (s : List ℕ) (is : isRoll z s ≡ true
   unfolding leadTo
   lead-in m le = lead-within (at (0 ∷ L) m) (lead-member m le)
 
-  -- a checkpoint laid
+  -- a checkpoint inserted
   module _ (room : length L < k) (c : Checkpoint) (chain : Chain z (c .chain)) where
     abbrev t : List ℕ
     t = c .chain
@@ -132,14 +132,14 @@ module _ (z : WordSize) (ok : Octets z) (s : List ℕ) (is : isRoll z s ≡ true
     abbrev U : List ℕ
     U = withIndex z S last i
 
-    laid-is : laid z c s ≡ U
-    unfolding laid leadTo
-    laid-is = refl
+    inserted-is : inserted z c s ≡ U
+    unfolding inserted leadTo
+    inserted-is = refl
 
-    laid-length : length U ≡ length s
-    laid-length = index-size z ok k S (written ∙ sizes .size) last last-within i ∙ written
+    inserted-length : length U ≡ length s
+    inserted-length = index-size z ok k S (written ∙ sizes .size) last last-within i ∙ written
 
-    -- the slot taken is none of those on the way
+    -- the slot taken is none of those on the walk
     unlike : (q : ℕ) → member q (0 ∷ L) ≡ true → q ≡ i → ⊥
     unlike q h e =
         ⊎-elim (λ zero-is. let p : 0 < i = free .some in absurd (omega arith)) (λ m. apart q i L m (free .free) e) (member-cases q 0 L h)
@@ -160,32 +160,32 @@ module _ (z : WordSize) (ok : Octets z) (s : List ℕ) (is : isRoll z s ≡ true
         next-other z ok k S (written ∙ sizes .size) last last-within i i last-unlike
         ∙ slot-next z ok k s (sizes .size) i (free .within) (free .some) t chain
 
-    laid-way : Leads (nextIndex z U) (nextIndex z U 0) (L ++ i ∷ [])
-    laid-way =
+    inserted-traversal : Leads (nextIndex z U) (nextIndex z U 0) (L ++ i ∷ [])
+    inserted-traversal =
         subst (λ (l : List ℕ). Leads (nextIndex z U) (nextIndex z U 0) (l ++ i ∷ [])) (take-length L)
-        (relinked (nextIndex z s) (nextIndex z U) L (length L) 0 i (i ∷ []) (have .way) from-head (le-refl (length L)) next-kept next-last
+        (relinked (nextIndex z s) (nextIndex z U) L (length L) 0 i (i ∷ []) (have .traversal) from-head (le-refl (length L)) next-kept next-last
         (refl, (λ e. let p : 0 < i = free .some in absurd (omega arith)), next-taken))
 
-    laid-distinct : repeats (L ++ i ∷ []) ≡ false
-    laid-distinct = repeats-snoc eqb eqb-equivalence i L (have .distinct) (free .free)
+    inserted-distinct : repeats (L ++ i ∷ []) ≡ false
+    inserted-distinct = repeats-snoc eqb eqb-equivalence i L (have .distinct) (free .free)
 
-    laid-within : (x : ℕ) → member x (L ++ i ∷ []) ≡ true → (0 < x) × (x ≤ slotCount z (length U))
-    laid-within x h =
-        rw laid-length
+    inserted-within : (x : ℕ) → member x (L ++ i ∷ []) ≡ true → (0 < x) × (x ≤ slotCount z (length U))
+    inserted-within x h =
+        rw inserted-length
         (⊎-elim (λ e. subst (λ (n : ℕ). (0 < n) × (n ≤ k)) (sym e) (free .some, free .within)) (have .within x)
         (member-cases x i L (sym (one-snoc eqb x i L) ∙ h)))
 
-    laid-right : isRollLength z (length U) ≡ true
-    laid-right = ap (isRollLength z) laid-length ∙ have .right
+    inserted-right : isRollLength z (length U) ≡ true
+    inserted-right = ap (isRollLength z) inserted-length ∙ have .right
 
-    pub laid-size : length (laid z c s) ≡ length s
-    laid-size = ap length laid-is ∙ laid-length
+    pub inserted-size : length (inserted z c s) ≡ length s
+    inserted-size = ap length inserted-is ∙ inserted-length
 
-    pub laid-links : links z (laid z c s) ≡ L ++ i ∷ []
-    laid-links = ap (links z) laid-is ∙ links-are z U (L ++ i ∷ []) laid-right laid-way laid-distinct laid-within
+    pub inserted-links : links z (inserted z c s) ≡ L ++ i ∷ []
+    inserted-links = ap (links z) inserted-is ∙ links-are z U (L ++ i ∷ []) inserted-right inserted-traversal inserted-distinct inserted-within
 
-    pub laid-roll : isRoll z (laid z c s) ≡ true
-    laid-roll = ap (isRoll z) laid-is ∙ is-roll z U (L ++ i ∷ []) laid-right laid-way laid-distinct laid-within
+    pub inserted-roll : isRoll z (inserted z c s) ≡ true
+    inserted-roll = ap (isRoll z) inserted-is ∙ is-roll z U (L ++ i ∷ []) inserted-right inserted-traversal inserted-distinct inserted-within
 
     chain-stays : (x : ℕ) → member x L ≡ true → chainIn z U x ≡ chainIn z s x
     chain-stays x h =
@@ -198,22 +198,22 @@ module _ (z : WordSize) (ok : Octets z) (s : List ℕ) (is : isRoll z s ≡ true
         ∙ slot-chain z ok k s (sizes .size) i (free .within) (free .some) t chain
 
     -- it is shown behind the others, if it has the number of the next
-    laid-shown : c .number ≡ spacing * suc (length L) → shown z (laid z c s) ≡ shown z s ++ c ∷ []
+    inserted-shown : c .number ≡ spacing * suc (length L) → shown z (inserted z c s) ≡ shown z s ++ c ∷ []
     unfolding shown
-    laid-shown next =
-        ap₂ (λ (u : List ℕ) (l : List ℕ). checkpointsIn z u 1 l) laid-is laid-links
+    inserted-shown next =
+        ap₂ (λ (u : List ℕ) (l : List ℕ). checkpointsIn z u 1 l) inserted-is inserted-links
         ∙ in-snoc z U 1 L i (c .number) (omega arith)
         ∙ ap₂ (λ (cs : List Checkpoint) (x : List ℕ). cs ++ record { number = c .number; chain = x } ∷ []) (in-same z U s 1 L chain-stays) chain-new
 
     -- every other slot that was not linked keeps its bytes
-    laid-untaken : (j : ℕ) → 0 < j → member j (links z (laid z c s)) ≡ false → slotAt z (laid z c s) j ≡ slotAt z s j
-    laid-untaken j some unlinked-after =
+    inserted-untaken : (j : ℕ) → 0 < j → member j (links z (inserted z c s)) ≡ false → slotAt z (inserted z c s) j ≡ slotAt z s j
+    inserted-untaken j some unlinked-after =
         let p : (eqb j i ≡ false) × (member j L ≡ false) =
-        or-false (eqb j i) (member j L) (sym (ap (member j) laid-links ∙ one-snoc eqb j i L) ∙ unlinked-after) in
+        or-false (eqb j i) (member j L) (sym (ap (member j) inserted-links ∙ one-snoc eqb j i L) ∙ unlinked-after) in
         let other : j ≡ i → ⊥ = eqb-false j i (p .0) in
         let not-last : j ≡ last → ⊥ =
         λ e. ⊎-elim (λ zero-is. omega arith) (λ m. apart last j L m (p .1) (sym e)) (member-cases last 0 L (lead-member (length L) (le-refl (length L)))) in
-        ap (λ (u : List ℕ). slotAt z u j) laid-is
+        ap (λ (u : List ℕ). slotAt z u j) inserted-is
         ∙ slot-kept z ok k S (written ∙ sizes .size) last last-within i j some not-last
         ∙ slot-kept-other z ok k s (sizes .size) i (free .within) (free .some) t chain j some other
 
@@ -232,10 +232,10 @@ module _ (z : WordSize) (ok : Octets z) (s : List ℕ) (is : isRoll z s ≡ true
       cut-length : length C ≡ length s
       cut-length = index-size z ok k s (sizes .size) at-m m-within 0
 
-      cut-way : Leads (nextIndex z C) (nextIndex z C 0) (take m L)
-      cut-way =
+      cut-traversal : Leads (nextIndex z C) (nextIndex z C 0) (take m L)
+      cut-traversal =
           subst (λ (l : List ℕ). Leads (nextIndex z C) (nextIndex z C 0) l) (append-nil (take m L))
-          (relinked (nextIndex z s) (nextIndex z C) L m 0 0 [] (have .way) from-head (omega arith)
+          (relinked (nextIndex z s) (nextIndex z C) L m 0 0 [] (have .traversal) from-head (omega arith)
           (λ q h other. next-other z ok k s (sizes .size) at-m m-within 0 q other)
           (next-is z ok k s (sizes .size) at-m m-within 0 (omega arith)) refl)
 
@@ -246,10 +246,10 @@ module _ (z : WordSize) (ok : Octets z) (s : List ℕ) (is : isRoll z s ≡ true
       cut-within x h = rw cut-length (have .within x (one-take eqb x m L h))
 
       cut-links : links z C ≡ take m L
-      cut-links = links-are z C (take m L) cut-right cut-way (repeats-take eqb m L (have .distinct)) cut-within
+      cut-links = links-are z C (take m L) cut-right cut-traversal (repeats-take eqb m L (have .distinct)) cut-within
 
       cut-roll : isRoll z C ≡ true
-      cut-roll = is-roll z C (take m L) cut-right cut-way (repeats-take eqb m L (have .distinct)) cut-within
+      cut-roll = is-roll z C (take m L) cut-right cut-traversal (repeats-take eqb m L (have .distinct)) cut-within
 
       cut-shown : shown z C ≡ take m (shown z s)
       unfolding shown
@@ -279,36 +279,36 @@ module _ (z : WordSize) (ok : Octets z) (s : List ℕ) (is : isRoll z s ≡ true
               shows = sym (take-all m (shown z s) (omega (arith, shown-many z s, ltb-false m (length L) e)));
             }
 
--- d checkpoints laid one after the other behind m links, with the chains f
+-- d checkpoints inserted one after the other behind m links, with the chains f
 module _ (z : WordSize) (ok : Octets z) (f : ℕ → List ℕ) (chains : (j : ℕ) → Chain z (f j)) where
-  pub record Laid (s : List ℕ) (numbers : List ℕ) (u : List ℕ) : Type 0 where
+  pub record Inserted (s : List ℕ) (numbers : List ℕ) (u : List ℕ) : Type 0 where
     pub size : length u ≡ length s
     pub roll : isRoll z u ≡ true
     pub shows : shown z u ≡ shown z s ++ checkpointsAt f numbers
     pub untaken : (j : ℕ) → 0 < j → member j (links z u) ≡ false → (member j (links z s) ≡ false) × (slotAt z u j ≡ slotAt z s j)
 
-  pub laid-all : (d m : ℕ) (s : List ℕ) → isRoll z s ≡ true → length (links z s) ≡ m → m + d ≤ slotCount z (length s)
-      → Laid s (multiplesAfter m d) (laidAll z (checkpointsAt f (multiplesAfter m d)) s)
-  laid-all zero m s is many room =
+  pub inserted-all : (d m : ℕ) (s : List ℕ) → isRoll z s ≡ true → length (links z s) ≡ m → m + d ≤ slotCount z (length s)
+      → Inserted s (multiplesAfter m d) (insertedAll z (checkpointsAt f (multiplesAfter m d)) s)
+  inserted-all zero m s is many room =
       record { size = refl; roll = is; shows = sym (append-nil (shown z s)); untaken = λ j some free. (free, refl) }
-  laid-all (suc d) m s is many room =
+  inserted-all (suc d) m s is many room =
       let left : length (links z s) < slotCount z (length s) = omega arith in
       let c : Checkpoint = record { number = spacing * suc m; chain = f (spacing * suc m) } in
       let ct : Chain z (c .chain) = chains (spacing * suc m) in
-      let u : List ℕ = laid z c s in
-      let same : length u ≡ length s = laid-size z ok s is left c ct in
-      let more : length (links z u) ≡ suc m = ap length (laid-links z ok s is left c ct) ∙ length-append (links z s) _ ∙ omega arith in
-      let rest = laid-all d (suc m) u (laid-roll z ok s is left c ct) more (rw same (omega arith)) in
+      let u : List ℕ = inserted z c s in
+      let same : length u ≡ length s = inserted-size z ok s is left c ct in
+      let more : length (links z u) ≡ suc m = ap length (inserted-links z ok s is left c ct) ∙ length-append (links z s) _ ∙ omega arith in
+      let rest = inserted-all d (suc m) u (inserted-roll z ok s is left c ct) more (rw same (omega arith)) in
       record {
         size = rest .size ∙ same;
         roll = rest .roll;
         shows =
             rest .shows
-            ∙ ap (λ (cs : List Checkpoint). cs ++ checkpointsAt f (multiplesAfter (suc m) d)) (laid-shown z ok s is left c ct (ap (λ (n : ℕ). spacing * suc n) (sym many)))
+            ∙ ap (λ (cs : List Checkpoint). cs ++ checkpointsAt f (multiplesAfter (suc m) d)) (inserted-shown z ok s is left c ct (ap (λ (n : ℕ). spacing * suc n) (sym many)))
             ∙ append-assoc (shown z s) (c ∷ []) (checkpointsAt f (multiplesAfter (suc m) d));
         untaken = λ j some free.
             let r = rest .untaken j some free in
             let p = or-false (eqb j (taken z s)) (member j (links z s))
-            (sym (ap (member j) (laid-links z ok s is left c ct) ∙ one-snoc eqb j (taken z s) (links z s)) ∙ r .0) in
-            (p .1, r .1 ∙ laid-untaken z ok s is left c ct j some (r .0));
+            (sym (ap (member j) (inserted-links z ok s is left c ct) ∙ one-snoc eqb j (taken z s) (links z s)) ∙ r .0) in
+            (p .1, r .1 ∙ inserted-untaken z ok s is left c ct j some (r .0));
       }

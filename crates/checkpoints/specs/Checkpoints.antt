@@ -1,4 +1,4 @@
--- Checkpoints laid on a roll, and taken off it; and the roll after a call.
+-- Checkpoints inserted on a roll, and taken off it; and the roll after a call.
 -- Assumes nothing.
 use mathlib.Core.Bool.{cond}
 use mathlib.Core.List.{List, [], _∷_}
@@ -31,14 +31,14 @@ leadTo z s m = at (0 ∷ links z s) m
 unfoldable pub taken : WordSize → List ℕ → ℕ
 taken z s = freeSlot (slotCount z (length s)) (links z s)
 
--- a checkpoint is laid: the slot taken is written, and linked behind the last
-unfoldable pub laid : WordSize → Checkpoint → List ℕ → List ℕ
-laid z c s = withIndex z (withSlot z s (taken z s) (c .chain)) (leadTo z s (length (links z s))) (taken z s)
+-- a checkpoint is inserted: the slot taken is written, and linked behind the last
+unfoldable pub inserted : WordSize → Checkpoint → List ℕ → List ℕ
+inserted z c s = withIndex z (withSlot z s (taken z s) (c .chain)) (leadTo z s (length (links z s))) (taken z s)
 
--- checkpoints are laid, one after the other
-abbrev pub laidAll : WordSize → List Checkpoint → List ℕ → List ℕ
-laidAll z [] s = s
-laidAll z (c ∷ cs) s = laidAll z cs (laid z c s)
+-- checkpoints are inserted, one after the other
+abbrev pub insertedAll : WordSize → List Checkpoint → List ℕ → List ℕ
+insertedAll z [] s = s
+insertedAll z (c ∷ cs) s = insertedAll z cs (inserted z c s)
 
 -- the links from the m-th on are taken off, if there are any: the index that led to the first of them becomes 0, and nothing else is written
 unfoldable pub unlinked : WordSize → ℕ → List ℕ → List ℕ

@@ -17,7 +17,7 @@ checkpointsAt chain numbers = map (λ k. record { number = k; chain = chain k })
 abbrev pub numbersOf : List Checkpoint → List ℕ
 numbersOf cs = map (λ c. c .number) cs
 
--- a checkpoint is laid at every 64th block
+-- a checkpoint is inserted at every 64th block
 abbrev pub spacing : ℕ
 spacing = 64
 

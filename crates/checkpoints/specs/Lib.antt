@@ -1,4 +1,4 @@
--- In the order of W1: checkpoints and their numbers, the bytes of a roll, its links, the checkpoints that it shows, and checkpoints laid and unlinked.
+-- In the order of W1: checkpoints and their numbers, the bytes of a roll, its links, the checkpoints that it shows, and checkpoints inserted and unlinked.
 pub mod Due
 pub mod Slots
 pub mod Members

@@ -22,14 +22,14 @@ newRoll z k = replicate (rollBytes z k) 0
 unfoldable pub nextIndex : WordSize → List ℕ → ℕ → ℕ
 nextIndex z s i = wordAt indexBytes s (indexPlace z i)
 
--- the slots met from index i on, where next leads from each, n of them at most; index 0 ends the way
-abbrev pub met : (ℕ → ℕ) → ℕ → ℕ → List ℕ
-met next zero i = []
-met next (suc n) i = cond (eqb i 0) [] (i ∷ met next n (next i))
+-- the slots visited from index i on, where next leads from each, n of them at most; index 0 ends the walk
+abbrev pub visited : (ℕ → ℕ) → ℕ → ℕ → List ℕ
+visited next zero i = []
+visited next (suc n) i = cond (eqb i 0) [] (i ∷ visited next n (next i))
 
--- the slots met on the way from the head. A way that meets one more than there are has met one of them twice, or an index beyond them
+-- the slots visited on the walk from the head. A walk that visits one more than there are has visited one of them twice, or an index beyond them
 unfoldable pub links : WordSize → List ℕ → List ℕ
-links z s = met (nextIndex z s) (suc (slotCount z (length s))) (nextIndex z s 0)
+links z s = visited (nextIndex z s) (suc (slotCount z (length s))) (nextIndex z s 0)
 
 -- the chain of slot i
 unfoldable pub chainIn : WordSize → List ℕ → ℕ → List ℕ
@@ -44,7 +44,7 @@ checkpointsIn z s k (i ∷ l) = record { number = spacing * k; chain = chainIn z
 unfoldable pub shown : WordSize → List ℕ → List Checkpoint
 shown z s = checkpointsIn z s 1 (links z s)
 
--- a buffer of right length, with no index beyond the slots and no slot met twice on the way from the head
+-- a buffer of right length, with no index beyond the slots and no slot visited twice on the walk from the head
 unfoldable pub isRoll : WordSize → List ℕ → Bool
 isRoll z s = isRollLength z (length s) && allUpTo (slotCount z (length s)) (links z s) && not (repeats (links z s))
 

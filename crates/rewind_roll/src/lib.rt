@@ -6,12 +6,12 @@ ghost use mathlib.Core.List.{List};
 ghost use Prim.Native.Nat.{ℕ};
 ghost use Rattle.lsh.specs.WordSize.{sizeOf};
 ghost use Rattle.checkpoints.specs.Roll.{isRoll};
-ghost use Rattle.roll.specs.Way.{wayOf};
+ghost use Rattle.roll.specs.Traversal.{traversalOf};
 ghost use Rattle.rewind_roll.specs.RewindRoll.{rewindRollCall, cutRoll, rewoundRoll};
 ghost use Rattle.rewind_roll.specs.EndRoll.{endRollCall, endedRoll};
 use record::Outcome;
 use record::Record;
-use roll::Way;
+use roll::Traversal;
 
 // The record after its last bytes h were handed back and the first keep of them remain.
 pub fn rewind_roll(r: Record, keep: u64, h: &[u8], roll: &mut [u8]) -> Outcome
@@ -34,8 +34,8 @@ pub fn end_roll(r: Record, keep: u64, roll: &mut [u8]) -> Outcome
 }
 
 // Takes the checkpoints past the new end off the roll, if the answer is 0.
-fn cut_roll(w: u64, o: Outcome, roll: &mut [u8], y: Way)
-    requires { ⌜ (y ≡ wayOf (sizeOf w) (now roll)) × (o .number ≡ 0 → isRoll (sizeOf w) (now roll) ≡ true) ⌝ }
+fn cut_roll(w: u64, o: Outcome, roll: &mut [u8], y: Traversal)
+    requires { ⌜ (y ≡ traversalOf (sizeOf w) (now roll)) × (o .number ≡ 0 → isRoll (sizeOf w) (now roll) ≡ true) ⌝ }
     ensures { λ _. ⌜ now (roll .exit) ≡ cutRoll w o (now (roll .entry)) ⌝ }
 {
     if o.number != 0 {
@@ -47,8 +47,8 @@ fn cut_roll(w: u64, o: Outcome, roll: &mut [u8], y: Way)
 }
 
 // The answer of a Rewind, where y is what is known of the roll.
-fn rewound(r: Record, keep: u64, h: &[u8], y: Way) -> Outcome
-    ensures { λ o. ⌜ ((roll : List ℕ) → y ≡ wayOf (sizeOf (r .w)) roll → o ≡ rewindRollCall r keep (now (h .entry)) roll) ⌝ }
+fn rewound(r: Record, keep: u64, h: &[u8], y: Traversal) -> Outcome
+    ensures { λ o. ⌜ ((roll : List ℕ) → y ≡ traversalOf (sizeOf (r .w)) roll → o ≡ rewindRollCall r keep (now (h .entry)) roll) ⌝ }
 {
     let a = roll::turn(r, record::is_begun(r), y);
     if a != 0 {
@@ -58,8 +58,8 @@ fn rewound(r: Record, keep: u64, h: &[u8], y: Way) -> Outcome
 }
 
 // The answer of an end.
-fn ended(r: Record, keep: u64, y: Way) -> Outcome
-    ensures { λ o. ⌜ ((roll : List ℕ) → y ≡ wayOf (sizeOf (r .w)) roll → o ≡ endRollCall r keep roll) ⌝ }
+fn ended(r: Record, keep: u64, y: Traversal) -> Outcome
+    ensures { λ o. ⌜ ((roll : List ℕ) → y ≡ traversalOf (sizeOf (r .w)) roll → o ≡ endRollCall r keep roll) ⌝ }
 {
     let a = roll::turn(r, !record::is_begun(r), y);
     if a != 0 {

@@ -1,4 +1,4 @@
--- The walk from the head: what is known after count links, and what is known at its end. L are the links that the definition meets.
+-- The walk from the head: what is known after count links, and what is known at its end. L are the links that the definition visits.
 -- Assumes nothing.
 use mathlib.Core.Path.{_≡_, refl, sym, ap, ap₂, _∙_}
 use mathlib.Core.Bool.{Bool, true, false, cond, _||_, false≢true}
@@ -18,17 +18,17 @@ use Rattle.lsh.specs.Block.{Chain}
 use Rattle.lsh.proofs.Bytes.{Octets}
 use Rattle.lsh.proofs.Tabulate.{length-tabulate, at-tabulate, tabulate-ext}
 use Rattle.elements.proofs.Repeats.{one-take, one-snoc, repeats-snoc}
-use Rattle.roll.specs.declared.Way.{Way}
+use Rattle.roll.specs.declared.Traversal.{Traversal}
 use Rattle.checkpoints.specs.Due.{Checkpoint}
 use Rattle.checkpoints.specs.Slots.{mostSlots, slotCount, isRollLength}
 use Rattle.checkpoints.specs.Members.{member, repeats, allUpTo}
 use Rattle.checkpoints.specs.Roll.{nextIndex, links, isRoll}
-use Rattle.checkpoints.specs.Checkpoints.{leadTo, taken, laid}
-use Rattle.roll.specs.Way.{marked, notARoll, wayOf}
+use Rattle.checkpoints.specs.Checkpoints.{leadTo, taken, inserted}
+use Rattle.roll.specs.Traversal.{marked, notARoll, traversalOf}
 use Rattle.checkpoints.proofs.Members.{eqb-equivalence, member-at, member-cases, repeats-again, distinct-few, all-up-to}
-use Rattle.checkpoints.proofs.Ways.{met-first, met-next}
+use Rattle.checkpoints.proofs.Traversals.{visited-first, visited-next}
 use Rattle.checkpoints.proofs.Form.{sized, Linked, linked, links-some}
-use Rattle.checkpoints.proofs.Shown.{taken-within, laid-size, laid-links, laid-roll}
+use Rattle.checkpoints.proofs.Shown.{taken-within, inserted-size, inserted-links, inserted-roll}
 
 -- the marks of a list
 
@@ -95,16 +95,16 @@ module _ (z : WordSize) (s : List ℕ) where
         upTo = zero-le;
         links = none ∙ marked-none;
         end = refl;
-        here = e ∙ met-first (nextIndex z s) (suc k) (nextIndex z s 0) (omega arith);
+        here = e ∙ visited-first (nextIndex z s) (suc k) (nextIndex z s 0) (omega arith);
         distinct = refl;
         within = λ x h. absurd (false≢true h);
       }
 
-  pub not-roll : (Linked z s → ⊥) → notARoll ≡ wayOf z s
-  unfolding wayOf
+  pub not-roll : (Linked z s → ⊥) → notARoll ≡ traversalOf z s
+  unfolding traversalOf
   not-roll never = go (isRoll z s) refl
     where
-      go : (b : Bool) → isRoll z s ≡ b → notARoll ≡ wayOf z s
+      go : (b : Bool) → isRoll z s ≡ b → notARoll ≡ traversalOf z s
       go true e = absurd (never (linked z s e))
       go false e = rw e
 
@@ -120,11 +120,11 @@ module _ (z : WordSize) (s : List ℕ) where
     is-link ne = ap (λ (x : ℕ). member x L) (w .here) ∙ member-at L count (some-left ne)
 
     -- an index beyond the slots
-    pub walked-beyond : (i ≡ 0 → ⊥) → k < i → notARoll ≡ wayOf z s
+    pub walked-beyond : (i ≡ 0 → ⊥) → k < i → notARoll ≡ traversalOf z s
     walked-beyond ne beyond = not-roll (λ h. omega (arith, h .within i (is-link ne) .1))
 
-    -- a slot met twice
-    pub walked-twice : (i ≡ 0 → ⊥) → i ≤ k → (at marks i ≡ 0 → ⊥) → notARoll ≡ wayOf z s
+    -- a slot visited twice
+    pub walked-twice : (i ≡ 0 → ⊥) → i ≤ k → (at marks i ≡ 0 → ⊥) → notARoll ≡ traversalOf z s
     walked-twice ne le set-is =
         let in-marks : i ≤ mostSlots = omega (arith, sized z s right .most) in
         let again : member i (take count L) ≡ true =
@@ -164,7 +164,7 @@ module _ (z : WordSize) (s : List ℕ) where
       unfolding links
       next-here next e =
           e ∙ ap (nextIndex z s) (w .here)
-          ∙ met-next (nextIndex z s) (suc k) (nextIndex z s 0) count (some-left ne) (omega (arith, walked-few))
+          ∙ visited-next (nextIndex z s) (suc k) (nextIndex z s 0) count (some-left ne) (omega (arith, walked-few))
           ∙ ap (at L) (sym (add-one count))
 
       pub walked-more : (next : ℕ) → next ≡ nextIndex z s i → Walked (set marks i 1) (count + 1) i next
@@ -178,17 +178,17 @@ module _ (z : WordSize) (s : List ℕ) where
             within = within-more;
           }
 
-    -- the end of the way
+    -- the end of the walk
     module _ (none : i ≡ 0) where
-      all-met : count ≡ length L
-      all-met = go (decLt count (length L))
+      all-visited : count ≡ length L
+      all-visited = go (decLt count (length L))
         where
           go : Dec (count < length L) → count ≡ length L
           go (yes h) = absurd (omega (arith, links-some z s (at L count) (member-at L count h), w .here))
           go (no h) = omega (arith, w .upTo)
 
       whole : take count L ≡ L
-      whole = take-all count L (omega (arith, all-met))
+      whole = take-all count L (omega (arith, all-visited))
 
       is-roll : isRoll z s ≡ true
       unfolding isRoll
@@ -198,21 +198,21 @@ module _ (z : WordSize) (s : List ℕ) where
           rw (right, u, d)
 
       pub walked-all : (slots : ℕ) → slots ≡ k
-          → _≡_ {A = Way} (record { form = true; slots = slots; count = count; last = last; marks = marks }) (wayOf z s)
-      unfolding wayOf leadTo
+          → _≡_ {A = Traversal} (record { form = true; slots = slots; count = count; last = last; marks = marks }) (traversalOf z s)
+      unfolding traversalOf leadTo
       walked-all slots e =
           rw is-roll
           (λ d. record {
             form = true;
             slots = e d;
-            count = all-met d;
-            last = (w .end ∙ ap (at (0 ∷ L)) all-met) d;
+            count = all-visited d;
+            last = (w .end ∙ ap (at (0 ∷ L)) all-visited) d;
             marks = (w .links ∙ ap marked whole) d;
           })
 
 -- what is known of a roll, and of one with a checkpoint more
 module _ (z : WordSize) (ok : Octets z) (s : List ℕ) (is : isRoll z s ≡ true) where
-  abbrev pub known : Way
+  abbrev pub known : Traversal
   known =
       record {
         form = true;
@@ -222,22 +222,22 @@ module _ (z : WordSize) (ok : Octets z) (s : List ℕ) (is : isRoll z s ≡ true
         marks = marked (links z s);
       }
 
-  pub way-is : wayOf z s ≡ known
-  unfolding wayOf
-  way-is = rw is
+  pub traversal-is : traversalOf z s ≡ known
+  unfolding traversalOf
+  traversal-is = rw is
 
-  way-laid : (c : Checkpoint) → Chain z (c .chain) → length (links z s) < slotCount z (length s)
-      → _≡_ {A = Way}
+  traversal-inserted : (c : Checkpoint) → Chain z (c .chain) → length (links z s) < slotCount z (length s)
+      → _≡_ {A = Traversal}
       (record { form = true; slots = slotCount z (length s); count = length (links z s) + 1; last = taken z s; marks = set (marked (links z s)) (taken z s) 1 })
-      (wayOf z (laid z c s))
-  unfolding wayOf leadTo
-  way-laid c chain room =
+      (traversalOf z (inserted z c s))
+  unfolding traversalOf leadTo
+  traversal-inserted c chain room =
       let i : ℕ = taken z s in
       let l : List ℕ = links z s in
-      let e : links z (laid z c s) ≡ l ++ i ∷ [] = laid-links z ok s is room c chain in
+      let e : links z (inserted z c s) ≡ l ++ i ∷ [] = inserted-links z ok s is room c chain in
       let more : length (l ++ i ∷ []) ≡ length l + 1 = length-append l (i ∷ []) in
       let le : i ≤ mostSlots = omega (arith, taken-within z ok s is room c chain .1, sized z s (linked z s is .right) .most) in
-      rw (laid-roll z ok s is room c chain, e, laid-size z ok s is room c chain, more)
+      rw (inserted-roll z ok s is room c chain, e, inserted-size z ok s is room c chain, more)
       (λ d. record {
         form = true;
         slots = slotCount z (length s);
@@ -246,17 +246,17 @@ module _ (z : WordSize) (ok : Octets z) (s : List ℕ) (is : isRoll z s ≡ true
         marks = marked-more l i le d;
       })
 
-  pub way-more : (c : Checkpoint) → Chain z (c .chain) → length (links z s) < slotCount z (length s) → {y : Way} {i : ℕ} → y ≡ known → i ≡ taken z s
-      → _≡_ {A = Way} (record { form = y .form; slots = y .slots; count = y .count + 1; last = i; marks = set (y .marks) i 1 }) (wayOf z (laid z c s))
-  way-more c chain room {y} {i} is chosen =
-      ap₂ (λ (x : Way) (j : ℕ). record { form = x .form; slots = x .slots; count = x .count + 1; last = j; marks = set (x .marks) j 1 }) is chosen
-      ∙ way-laid c chain room
+  pub traversal-more : (c : Checkpoint) → Chain z (c .chain) → length (links z s) < slotCount z (length s) → {y : Traversal} {i : ℕ} → y ≡ known → i ≡ taken z s
+      → _≡_ {A = Traversal} (record { form = y .form; slots = y .slots; count = y .count + 1; last = i; marks = set (y .marks) i 1 }) (traversalOf z (inserted z c s))
+  traversal-more c chain room {y} {i} is chosen =
+      ap₂ (λ (x : Traversal) (j : ℕ). record { form = x .form; slots = x .slots; count = x .count + 1; last = j; marks = set (x .marks) j 1 }) is chosen
+      ∙ traversal-inserted c chain room
 
 -- what is known of any buffer: whether it is a roll, and how many links a roll has
-module _ (z : WordSize) (s : List ℕ) {y : Way} (known : y ≡ wayOf z s) where
-  pub way-form : y .form ≡ isRoll z s
-  unfolding wayOf notARoll
-  way-form = ap (λ (x : Way). x .form) known ∙ go (isRoll z s)
+module _ (z : WordSize) (s : List ℕ) {y : Traversal} (known : y ≡ traversalOf z s) where
+  pub traversal-form : y .form ≡ isRoll z s
+  unfolding traversalOf notARoll
+  traversal-form = ap (λ (x : Traversal). x .form) known ∙ go (isRoll z s)
     where
       go : (b : Bool) → cond b (record {
         form = true;
@@ -268,18 +268,18 @@ module _ (z : WordSize) (s : List ℕ) {y : Way} (known : y ≡ wayOf z s) where
       go true = refl
       go false = refl
 
-  pub way-count : isRoll z s ≡ true → y .count ≡ length (links z s)
-  unfolding wayOf
-  way-count is = ap (λ (x : Way). x .count) known ∙ rw is
+  pub traversal-count : isRoll z s ≡ true → y .count ≡ length (links z s)
+  unfolding traversalOf
+  traversal-count is = ap (λ (x : Traversal). x .count) known ∙ rw is
 
-  pub way-slots : isRoll z s ≡ true → y .slots ≡ slotCount z (length s)
-  unfolding wayOf
-  way-slots is = ap (λ (x : Way). x .slots) known ∙ rw is
+  pub traversal-slots : isRoll z s ≡ true → y .slots ≡ slotCount z (length s)
+  unfolding traversalOf
+  traversal-slots is = ap (λ (x : Traversal). x .slots) known ∙ rw is
 
--- each slot on the way leads to the next
+-- each slot on the walk leads to the next
 pub lead-next : (z : WordSize) (s : List ℕ) → Linked z s → (m : ℕ) → m < length (links z s) → nextIndex z s (leadTo z s m) ≡ leadTo z s (m + 1)
 unfolding leadTo links
-lead-next z s h zero lt = met-first (nextIndex z s) (suc (slotCount z (length s))) (nextIndex z s 0) (omega arith)
+lead-next z s h zero lt = visited-first (nextIndex z s) (suc (slotCount z (length s))) (nextIndex z s 0) (omega arith)
 lead-next z s h (suc m) lt =
-    met-next (nextIndex z s) (suc (slotCount z (length s))) (nextIndex z s 0) m (omega arith) (omega (arith, h .few))
+    visited-next (nextIndex z s) (suc (slotCount z (length s))) (nextIndex z s 0) m (omega arith) (omega (arith, h .few))
     ∙ ap (at (0 ∷ links z s)) (sym (add-one (suc m)))

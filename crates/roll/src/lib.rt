@@ -1,4 +1,4 @@
-// A roll of checkpoints in a lent buffer: its slots are walked from the head, a checkpoint is laid behind the last, and links are taken off.
+// A roll of checkpoints in a lent buffer: its slots are walked from the head, a checkpoint is inserted behind the last, and links are taken off.
 ghost use mathlib.Core.Path.{_≡_};
 ghost use mathlib.Core.Bool.{true, false};
 ghost use mathlib.Core.List.{List};
@@ -11,8 +11,8 @@ ghost use Rattle.record.specs.Record.{sound};
 ghost use Rattle.checkpoints.specs.Slots.{indexBytes, mostSlots, slotBytes, slotCount, isRollLength, indexPlace};
 ghost use Rattle.checkpoints.specs.Roll.{nextIndex, links, isRoll, checkpoints, isRollOf, rollAnswer};
 ghost use Rattle.checkpoints.specs.FreeSlot.{freeSlot};
-ghost use Rattle.checkpoints.specs.Checkpoints.{withIndex, withSlot, leadTo, laid, unlinked};
-ghost use Rattle.roll.specs.Way.{marked, notARoll, wayOf};
+ghost use Rattle.checkpoints.specs.Checkpoints.{withIndex, withSlot, leadTo, inserted, unlinked};
+ghost use Rattle.roll.specs.Traversal.{marked, notARoll, traversalOf};
 use record::Record;
 
 // The most slots of a roll.
@@ -24,12 +24,12 @@ const INDEX: usize = 2;
 // A mark for the head and for each slot.
 const MARKS: usize = MOST_SLOTS + 1;
 
-// A checkpoint is laid at every 64th block.
+// A checkpoint is inserted at every 64th block.
 pub const SPACING: u64 = 64;
 
 // What is known of a roll that was walked: whether it has the form of one, how many slots it has and how many of them are linked, the last link, or 0,
 // and which slots are linked.
-pub struct Way {
+pub struct Traversal {
     pub form: bool,
     pub slots: usize,
     pub count: usize,
@@ -38,8 +38,8 @@ pub struct Way {
 }
 
 // Walks the links from the head.
-pub fn walk(w: u64, roll: &[u8]) -> Way
-    ensures { λ y. ⌜ y ≡ wayOf (sizeOf w) (now (roll .entry)) ⌝ }
+pub fn walk(w: u64, roll: &[u8]) -> Traversal
+    ensures { λ y. ⌜ y ≡ traversalOf (sizeOf w) (now (roll .entry)) ⌝ }
 {
     if !is_roll_length(w, roll.len()) {
         return not_a_roll();
@@ -48,8 +48,8 @@ pub fn walk(w: u64, roll: &[u8]) -> Way
 }
 
 // Whether the roll that was walked is one of the record.
-pub fn is_roll_of(y: Way, r: Record) -> bool
-    ensures { λ b. ⌜ ((s : List ℕ) → y ≡ wayOf (sizeOf (r .w)) s → b ≡ isRollOf r s) ⌝ }
+pub fn is_roll_of(y: Traversal, r: Record) -> bool
+    ensures { λ b. ⌜ ((s : List ℕ) → y ≡ traversalOf (sizeOf (r .w)) s → b ≡ isRollOf r s) ⌝ }
 {
     if !y.form {
         return false;
@@ -58,8 +58,8 @@ pub fn is_roll_of(y: Way, r: Record) -> bool
 }
 
 // The answer of the tests that a call with a roll makes first, where out says whether it is out of turn.
-pub fn turn(r: Record, out: bool, y: Way) -> u32
-    ensures { λ a. ⌜ (a ≡ 0 → (sound r ≡ true) × (out ≡ false)) × ((s : List ℕ) → y ≡ wayOf (sizeOf (r .w)) s → a ≡ rollAnswer r out s) ⌝ }
+pub fn turn(r: Record, out: bool, y: Traversal) -> u32
+    ensures { λ a. ⌜ (a ≡ 0 → (sound r ≡ true) × (out ≡ false)) × ((s : List ℕ) → y ≡ traversalOf (sizeOf (r .w)) s → a ≡ rollAnswer r out s) ⌝ }
 {
     let a = record::turn(r, out);
     if a != 0 {
@@ -79,9 +79,9 @@ pub fn checkpoints(w: u64, total: u64) -> u64
 }
 
 // Lays a checkpoint with the chain t in a slot that is not linked, behind the last link; its number is not written. Returns what is known of the roll then.
-pub fn lay(w: u64, y: Way, roll: &mut [u8], t: [u64; 16]) -> Way
-    requires { ⌜ (isWordSize w ≡ true) × Chain (sizeOf w) t × (isRoll (sizeOf w) (now roll) ≡ true) × (y ≡ wayOf (sizeOf w) (now roll)) × (y .count < y .slots) ⌝ }
-    ensures { λ x. ⌜ ((k : ℕ) → now (roll .exit) ≡ laid (sizeOf w) (record { number = k; chain = t }) (now (roll .entry))) × (x ≡ wayOf (sizeOf w) (now (roll .exit))) ⌝ }
+pub fn insert(w: u64, y: Traversal, roll: &mut [u8], t: [u64; 16]) -> Traversal
+    requires { ⌜ (isWordSize w ≡ true) × Chain (sizeOf w) t × (isRoll (sizeOf w) (now roll) ≡ true) × (y ≡ traversalOf (sizeOf w) (now roll)) × (y .count < y .slots) ⌝ }
+    ensures { λ x. ⌜ ((k : ℕ) → now (roll .exit) ≡ inserted (sizeOf w) (record { number = k; chain = t }) (now (roll .entry))) × (x ≡ traversalOf (sizeOf w) (now (roll .exit))) ⌝ }
 {
     let slots = y.slots;
     let last = y.last;
@@ -131,11 +131,11 @@ fn is_roll_length(w: u64, size: usize) -> bool
     size == INDEX + k * slot_bytes(w)
 }
 
-fn not_a_roll() -> Way
+fn not_a_roll() -> Traversal
     ensures { λ y. ⌜ y ≡ notARoll ⌝ }
 {
     let marks = no_marks();
-    Way {
+    Traversal {
         form: false,
         slots: 0,
         count: 0,
@@ -151,9 +151,9 @@ fn no_marks() -> [u8; MARKS]
 }
 
 // The links of a roll of right length.
-fn walk_links(w: u64, slots: usize, roll: &[u8]) -> Way
+fn walk_links(w: u64, slots: usize, roll: &[u8]) -> Traversal
     requires { ⌜ (isRollLength (sizeOf w) (length (now roll)) ≡ true) × (slots ≡ slotCount (sizeOf w) (length (now roll))) ⌝ }
-    ensures { λ y. ⌜ y ≡ wayOf (sizeOf w) (now (roll .entry)) ⌝ }
+    ensures { λ y. ⌜ y ≡ traversalOf (sizeOf w) (now (roll .entry)) ⌝ }
 {
     let mut marks = no_marks();
     let mut count: usize = 0;
@@ -171,7 +171,7 @@ fn walk_links(w: u64, slots: usize, roll: &[u8]) -> Way
         last = i;
         i = next_index(w, roll, i);
     }
-    Way {
+    Traversal {
         form: true,
         slots: slots,
         count: count,
@@ -180,8 +180,8 @@ fn walk_links(w: u64, slots: usize, roll: &[u8]) -> Way
     }
 }
 
-// The way with one link more.
-fn with_link(y: Way, i: usize) -> Way
+// The walk with one link more.
+fn with_link(y: Traversal, i: usize) -> Traversal
     requires { ⌜ (i ≤ mostSlots) × (y .count < mostSlots) ⌝ }
     ensures { λ x. ⌜ x ≡ record { form = y .form; slots = y .slots; count = y .count + 1; last = i; marks = set (y .marks) i 1 } ⌝ }
 {

@@ -42,7 +42,7 @@ use Rattle.tape.specs.Calls.{Call, Append, Rewind, Begin, HandBack, End,
 use Rattle.tape.specs.TapeRoll.{TapeRoll, RollShows}
 use Rattle.tape.proofs.Simulation.{Follows, choose}
 use Rattle.tape.proofs.Records.{WithinLimit, sound-is, append-next, held-same, cut-next}
-use Rattle.tape.proofs.Rolls.{full-test, laidRoll, laid-shows, cut-shows}
+use Rattle.tape.proofs.Rolls.{full-test, insertedRoll, inserted-shows, cut-shows}
 use Rattle.tape.proofs.Unfinished.{sound-y, begun-y, end-cut, block-more, none-yet}
 
 -- an order of the tape: its record is that of the tape, and its roll, if it has one, shows the chains of the tape's bytes
@@ -170,11 +170,11 @@ module _ (w : ℕ) (word : isWordSize w ≡ true) (n : ℕ) (digest : isDigestLe
         (λ within.
         choose by-number full (λ full. refuses (WithRoll size) (tape false k) roll shows 16 (plain-record s k) refl)
         (λ room.
-        accepts (WithRoll size) _ (plain (s ++ p)) (laidRoll w word n s size roll shows p) (plain-record (s ++ p) 0) (append-next w word n digest s short p)
-        (laid-shows w word n s size roll shows p room))))
+        accepts (WithRoll size) _ (plain (s ++ p)) (insertedRoll w word n s size roll shows p) (plain-record (s ++ p) 0) (append-next w word n digest s short p)
+        (inserted-shows w word n s size roll shows p room))))
       where
         by-number : ℕ → Given Order
-        by-number a = let o = cond (eqb a 0) (appendAccepted R p) (refused a R) in given o (ifAccepted o (laidRoll w word n s size roll shows p) roll)
+        by-number a = let o = cond (eqb a 0) (appendAccepted R p) (refused a R) in given o (ifAccepted o (insertedRoll w word n s size roll shows p) roll)
 
     -- Rewind where none is begun
     rewind-rest : (lent : Lent) (roll : List ℕ) → RollShows lent w n s roll → (k keep : ℕ) (h : List ℕ)

@@ -27,7 +27,7 @@ use Rattle.checkpoints.proofs.Form.{new-size, new-shown, new-roll, slots-are, r
 use Rattle.checkpoints.proofs.Shown.{shown-many, unlinked-cut}
 use Rattle.append_roll.specs.AppendRoll.{due, isFull, chainAt}
 use Rattle.append_roll.proofs.Answers.{full-is, goal-of}
-use Rattle.append_roll.proofs.Shows.{laid-due}
+use Rattle.append_roll.proofs.Shows.{inserted-due}
 use Rattle.tape.specs.Tape.{Lent, NoRoll, WithRoll, RollSize, wholeBlocks, tooManyBlocks}
 use Rattle.tape.specs.TapeRoll.{tapeCheckpoints, TapeRoll, RollShows, lentRoll}
 use Rattle.tape.proofs.Chains.{checkpoints-grow, checkpoints-cut}
@@ -64,7 +64,7 @@ module _ (w : ℕ) (word : isWordSize w ≡ true) (n : ℕ) (s : List ℕ) (size
   unfolding recordOf
   is = roll-of R roll (shows .isOf) .0
 
-  -- the checkpoints of a piece are laid
+  -- the checkpoints of a piece are inserted
   module _ (p : List ℕ) where
     slots-is : slotCount Z (length roll) ≡ size .slots
     slots-is = ap (slotCount Z) (shows .size) ∙ slots-are Z (size .slots) (size .some) (size .most)
@@ -77,14 +77,14 @@ module _ (w : ℕ) (word : isWordSize w ≡ true) (n : ℕ) (s : List ℕ) (size
     unfolding recordOf
     chain = forwards-chain Z (amounts w) (blocksOf Z s) (opening Z n) (opening-chain w n)
 
-    abbrev pub laidRoll : List ℕ
-    laidRoll = goal-of R p roll
+    abbrev pub insertedRoll : List ℕ
+    insertedRoll = goal-of R p roll
 
-    pub laid-shows : tooManyBlocks (WithRoll size) (wholeBlocks w (s ++ p)) ≡ false → TapeRoll w n (size .slots) (s ++ p) laidRoll
+    pub inserted-shows : tooManyBlocks (WithRoll size) (wholeBlocks w (s ++ p)) ≡ false → TapeRoll w n (size .slots) (s ++ p) insertedRoll
     unfolding recordOf isFull
-    laid-shows room =
-        let u = laid-due R chain p roll (shows .isOf) (ltb-false _ _ (full-test ∙ room)) in
-        tape-roll w n (size .slots) (s ++ p) laidRoll (u .size ∙ shows .size) (u .roll)
+    inserted-shows room =
+        let u = inserted-due R chain p roll (shows .isOf) (ltb-false _ _ (full-test ∙ room)) in
+        tape-roll w n (size .slots) (s ++ p) insertedRoll (u .size ∙ shows .size) (u .roll)
         (u .shows
         ∙ ap (λ (cs : List Checkpoint). cs ++ checkpointsAt (chainAt R p) (due R (length p))) (shows .shows)
         ∙ checkpoints-grow w n word s p)

@@ -1,4 +1,4 @@
--- `append_roll::answer` meets its contract, test by test. Assumes nothing.
+-- `append_roll::answer` visits its contract, test by test. Assumes nothing.
 use mathlib.Core.Path.{_≡_, sym, ap, ap₂, _∙_}
 use mathlib.Core.Bool.{Bool}
 use mathlib.Core.List.{List}
@@ -13,10 +13,10 @@ use Rattle.runs.specs.Limits.{limit}
 use Rattle.record.specs.Record.{isBegun}
 use Rattle.record.proofs.Sound.{Sound, sounds}
 use Rattle.checkpoints.specs.Roll.{checkpoints, rollAnswer}
-use Rattle.roll.specs.Way.{wayOf}
+use Rattle.roll.specs.Traversal.{traversalOf}
 use Rattle.checkpoints.proofs.Form.{roll-of}
 use Rattle.checkpoints.proofs.InTurn.{roll-passed}
-use Rattle.roll.proofs.Walked.{way-slots}
+use Rattle.roll.proofs.Walked.{traversal-slots}
 use Rattle.append_roll.specs.AppendRoll.{isFull, appendRollAnswer}
 use Rattle.append_roll.proofs.Answers.{full-is}
 use Rattle.append_roll.proofs.answer.Statement.{statement}
@@ -38,7 +38,7 @@ unfolding limit
 add-checkpoints c = record { fits = omega (arith, within c) }
 
 -- the first tests, of a roll that y is known of
-module _ (c : tie.After-turn) (roll : List ℕ) (known : c .before .before .args .y ≡ wayOf (sizeOf (c .before .before .args .r .w)) roll) where
+module _ (c : tie.After-turn) (roll : List ℕ) (known : c .before .before .args .y ≡ traversalOf (sizeOf (c .before .before .args .r .w)) roll) where
   turn-is : c .turn .result ≡ rollAnswer (c .before .before .args .r) (isBegun (c .before .before .args .r)) roll
   turn-is = c .turn .ensures .1 roll known ∙ ap (λ (b : Bool). rollAnswer (c .before .before .args .r) b roll) (c .before .is-begun .ensures)
 
@@ -48,7 +48,7 @@ module _ (c : tie.After-turn) (roll : List ℕ) (known : c .before .before .args
   full-test none many =
       let r = c .before .before .args .r in
       let of = roll-passed r (isBegun r) roll (sym turn-is ∙ none) .2 in
-      full-is r _ roll of ∙ sym (ap₂ ltb (way-slots (sizeOf (r .w)) roll known (roll-of r roll of .0)) many)
+      full-is r _ roll of ∙ sym (ap₂ ltb (traversal-slots (sizeOf (r .w)) roll known (roll-of r roll of .0)) many)
 
 pub answer-spec : {M : Type 1} → statement M
 unfolding appendRollAnswer limit

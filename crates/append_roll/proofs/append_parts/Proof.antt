@@ -1,4 +1,4 @@
--- `append_roll::append_parts` meets its contract: the parts of the piece between its checkpoints. Assumes nothing.
+-- `append_roll::append_parts` visits its contract: the parts of the piece between its checkpoints. Assumes nothing.
 use mathlib.Core.Path.{_≡_, refl, sym, ap, _∙_, subst}
 use mathlib.Core.Bool.{true}
 use mathlib.Core.List.{List, []}
@@ -17,7 +17,7 @@ use Rattle.checkpoints.specs.Roll.{checkpoints}
 use Rattle.checkpoints.proofs.Form.{roll-of}
 use Rattle.checkpoints.proofs.Spacing.{step}
 use Rattle.append_roll.proofs.Answers.{Accepted, accepted, goal-of, accepted-call}
-use Rattle.append_roll.proofs.Parts.{Entry, laid-at, due-after, Parted, so-far-sound, none-reached, first-room, first-parted, first-rest, chain-ok, count-few, next-room, parted-more, parted-roll, parted-end, order-there}
+use Rattle.append_roll.proofs.Parts.{Entry, inserted-at, due-after, Parted, so-far-sound, none-reached, first-room, first-parted, first-rest, chain-ok, count-few, next-room, parted-more, parted-roll, parted-end, order-there}
 use Rattle.append_roll.proofs.append_parts.Statement.{statement}
 use Rattle.append_roll.proofs.append_parts.Tie as tie
 
@@ -45,7 +45,7 @@ module _ (z : tie.Start Inv-loop μ-loop) where
   pass = entry .pass
 
   is : Sound R
-  is = sounds R (pass .taken)
+  is = sounds R (pass .soundRecord)
 
 -- the first checkpoint is reached
 module _ (c : tie.Else1 Inv-loop μ-loop) where
@@ -69,7 +69,7 @@ first-part-requires c κs =
     let e = c .before .before .before in
     let z = begun e in
     let of = roll-of (R z) (S z) (pass z .rollOf) in (
-      pass z .taken,
+      pass z .soundRecord,
       omega (arith, pass z .within, first-length e, le e),
       of .0,
       z .pre .1,
@@ -90,13 +90,13 @@ module _ (l : tie.At-loop Inv-loop μ-loop) where
   step-is : Q ≡ step (R from-start .w)
   step-is = l .before .before .before .before .before .before .between-checkpoints .ensures
 
-  laid-first : l .before .before .before .first-part .last .1 .1 .0 ≡ laid-at (R from-start) (P from-start) (first entered) (S from-start)
-  laid-first = l .before .before .before .first-part .ensures .2 _
+  inserted-first : l .before .before .before .first-part .last .1 .1 .0 ≡ inserted-at (R from-start) (P from-start) (first entered) (S from-start)
+  inserted-first = l .before .before .before .first-part .ensures .2 _
 
   rest-first : (length (l .before .before .before .first-part .last .1 .1 .0) ≡ length (S from-start))
       × (due-after (R from-start) (P from-start) (first entered) (l .before .before .before .first-part .last .1 .1 .0) ≡ goal-of (R from-start) (P from-start) (S from-start))
   rest-first =
-      first-rest (R from-start) (P from-start) (entry from-start) (first entered) (next entered) (le entered) laid-first
+      first-rest (R from-start) (P from-start) (entry from-start) (first entered) (next entered) (le entered) inserted-first
 
 -- a part to the next checkpoint
 module _ (c : tie.In-loop Inv-loop μ-loop) where
@@ -139,7 +139,7 @@ next-part-requires c κs =
         pass z .within,
       ),
       p .stage .form,
-      p .way,
+      p .traversal,
       next-room (R z) (P z) (entry z) p (reaches-step i),
     )
 
@@ -207,7 +207,7 @@ append-parts-spec =
     Inv-loop
     μ-loop
     (λ c κs. is (c .before .before) .few)
-    (λ c κs. let z = c .before .before .before .before in (pass z .taken, pass z .within))
+    (λ c κs. let z = c .before .before .before .before in (pass z .soundRecord, pass z .within))
     (λ c.
     let t = c .before .before in
     let z = t .before .before .before in (

@@ -1,4 +1,4 @@
--- `append_roll::append_roll` meets its contract, by the answer. Assumes nothing.
+-- `append_roll::append_roll` visits its contract, by the answer. Assumes nothing.
 use mathlib.Core.Path.{sym, _∙_}
 use borrow.Author.Needs.{needs}
 use Rattle.checkpoints.proofs.Members.{free-choice}

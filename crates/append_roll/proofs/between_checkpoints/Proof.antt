@@ -1,4 +1,4 @@
--- `append_roll::between_checkpoints` meets its contract. Assumes nothing.
+-- `append_roll::between_checkpoints` visits its contract. Assumes nothing.
 use native.Mathlib.Omega.{arith}
 use borrow.Author.Needs.{needs}
 use Rattle.runs.proofs.Limits.{block-most}

@@ -1,4 +1,4 @@
--- `append_roll::first_part` meets its contract. Assumes nothing.
+-- `append_roll::first_part` visits its contract. Assumes nothing.
 use mathlib.Core.Path.{_≡_, sym, ap, _∙_, subst}
 use native.Mathlib.Omega.{arith}
 use lib.ListN.{length}
@@ -11,8 +11,8 @@ use Rattle.record.specs.declared.Outcome.{Outcome}
 use Rattle.record.proofs.Sound.{sounds}
 use Rattle.append.specs.Append.{appended, appendAccepted}
 use Rattle.append.proofs.Sound.{appended-chain}
-use Rattle.checkpoints.specs.Checkpoints.{laid}
-use Rattle.roll.proofs.Walked.{way-count, way-slots}
+use Rattle.checkpoints.specs.Checkpoints.{inserted}
+use Rattle.roll.proofs.Walked.{traversal-count, traversal-slots}
 use Rattle.append_roll.proofs.first_part.Statement.{statement}
 use Rattle.append_roll.proofs.first_part.Tie as tie
 
@@ -39,7 +39,7 @@ first-part-spec =
       subst (λ (o : Record). Chain (sizeOf (r .w)) (o .chain)) (sym (next-is a)) (appended-chain r (z .pre .0) (words z) (long z) (z .args .part .now)),
       z .pre .2,
       z .pre .3,
-      omega (arith, way-count _ _ (z .pre .3) (z .pre .2), way-slots _ _ (z .pre .3) (z .pre .2), z .pre .4),
+      omega (arith, traversal-count _ _ (z .pre .3) (z .pre .2), traversal-slots _ _ (z .pre .3) (z .pre .2), z .pre .4),
     ))
     (λ c. search needs)
     (λ c.
@@ -48,6 +48,6 @@ first-part-spec =
     let l = c .before .before in (
       ap (λ (o : Record). o .chain) (next-is a),
       ap (λ (o : Outcome). o .count) (a .accepted .ensures),
-      λ k. l .lay .ensures .0 k ∙ ap (λ (o : Record). laid (sizeOf (z .args .r .w)) (record { number = k; chain = o .chain }) (z .args .roll .now)) (next-is a),
-      l .lay .ensures .1,
+      λ k. l .insert .ensures .0 k ∙ ap (λ (o : Record). inserted (sizeOf (z .args .r .w)) (record { number = k; chain = o .chain }) (z .args .roll .now)) (next-is a),
+      l .insert .ensures .1,
     )))

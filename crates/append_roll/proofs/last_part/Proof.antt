@@ -1,4 +1,4 @@
--- `append_roll::last_part` meets its contract. Assumes nothing.
+-- `append_roll::last_part` visits its contract. Assumes nothing.
 use mathlib.Core.Path.{_≡_, sym, ap, _∙_}
 use mathlib.Core.List.{List, []}
 use Prim.Native.Nat.{ℕ, _+_}

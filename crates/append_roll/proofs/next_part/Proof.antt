@@ -1,4 +1,4 @@
--- `append_roll::next_part` meets its contract. Assumes nothing.
+-- `append_roll::next_part` visits its contract. Assumes nothing.
 use mathlib.Core.Path.{sym, subst}
 use native.Mathlib.Nat.{div-le-self}
 use native.Mathlib.Omega.{arith}
@@ -9,7 +9,7 @@ use Rattle.lsh.specs.Block.{Chain}
 use Rattle.lsh.proofs.Figures.{amounts}
 use Rattle.lsh.proofs.Blocks.{forwards-chain}
 use Rattle.runs.specs.Limits.{limit}
-use Rattle.roll.proofs.Walked.{way-count, way-slots}
+use Rattle.roll.proofs.Walked.{traversal-count, traversal-slots}
 use Rattle.append_roll.proofs.next_part.Statement.{statement}
 use Rattle.append_roll.proofs.next_part.Tie as tie
 
@@ -32,7 +32,7 @@ next-part-spec =
       subst (Chain (sizeOf (z .args .w))) (sym (f .forward .ensures .0)) (forwards-chain (sizeOf (z .args .w)) (amounts (z .args .w)) _ (z .args .p .chain) (z .pre .1)),
       z .pre .3,
       z .pre .4,
-      omega (arith, way-count _ _ (z .pre .4) (z .pre .3), way-slots _ _ (z .pre .4) (z .pre .3), z .pre .5),
+      omega (arith, traversal-count _ _ (z .pre .4) (z .pre .3), traversal-slots _ _ (z .pre .4) (z .pre .3), z .pre .5),
     ))
     add-count
     (λ c. search needs)

@@ -1,4 +1,4 @@
--- `append_roll::to_checkpoint` meets its contract. Assumes nothing.
+-- `append_roll::to_checkpoint` visits its contract. Assumes nothing.
 use Prim.Native.Nat.{_<_}
 use native.Mathlib.Nat.{mod-lt}
 use native.Mathlib.Omega.{arith}

@@ -1,11 +1,11 @@
--- `rewind_roll::cut_roll` meets its contract, by the answer. Assumes nothing.
+-- `rewind_roll::cut_roll` visits its contract, by the answer. Assumes nothing.
 use mathlib.Core.Path.{sym, ap, _∙_}
 use Prim.Native.Nat.{ℕ}
 use borrow.Author.Needs.{needs}
 use Rattle.lsh.specs.WordSize.{sizeOf}
 use Rattle.checkpoints.specs.Checkpoints.{unlinked}
 use Rattle.checkpoints.proofs.InTurn.{roll-stays}
-use Rattle.roll.proofs.Walked.{way-count}
+use Rattle.roll.proofs.Walked.{traversal-count}
 use Rattle.rewind_roll.specs.RewindRoll.{cutRoll}
 use Rattle.rewind_roll.proofs.Rewinding.{roll-cut}
 use Rattle.rewind_roll.proofs.cut_roll.Statement.{statement}
@@ -21,7 +21,7 @@ cut-roll-spec =
     (λ c κs.
     let z = c .before .before .before .before .before .before in
     let is = z .pre .1 (c .before .before .before .if1 .left) in
-    (is, way-count _ _ (z .pre .0) is))
+    (is, traversal-count _ _ (z .pre .0) is))
     (λ c. search needs)
     (λ c.
     let z = c .before .before .before .before .before .before .before .before .before in

@@ -1,4 +1,4 @@
--- `rewind_roll::ended` meets its contract. Assumes nothing.
+-- `rewind_roll::ended` visits its contract. Assumes nothing.
 use mathlib.Core.Path.{sym, ap, _∙_}
 use mathlib.Core.Bool.{not}
 use borrow.Author.Needs.{needs}

@@ -1,4 +1,4 @@
--- `rewind_roll::rewound` meets its contract. Assumes nothing.
+-- `rewind_roll::rewound` visits its contract. Assumes nothing.
 use mathlib.Core.Path.{_∙_}
 use borrow.Author.Needs.{needs}
 use Rattle.checkpoints.proofs.InTurn.{roll-refused, roll-rest}

@@ -1,4 +1,4 @@
--- `roll::checkpoints` meets its contract. Assumes nothing.
+-- `roll::checkpoints` visits its contract. Assumes nothing.
 use borrow.Author.Needs.{needs}
 use Rattle.lsh.proofs.Figures.{block-some}
 use Rattle.checkpoints.specs.Roll.{checkpoints}

@@ -1,4 +1,4 @@
--- `roll::free_slot` meets its contract. Assumes nothing.
+-- `roll::free_slot` visits its contract. Assumes nothing.
 use mathlib.Core.Path.{_≡_, sym, ap, _∙_}
 use mathlib.Core.Bool.{true, false}
 use mathlib.Core.List.{List}
@@ -9,7 +9,7 @@ use Rattle.lsh.specs.Tabulate.{at}
 use Rattle.checkpoints.specs.Slots.{mostSlots}
 use Rattle.checkpoints.specs.Members.{member}
 use Rattle.checkpoints.specs.FreeSlot.{firstFree, freeSlot}
-use Rattle.roll.specs.Way.{marked}
+use Rattle.roll.specs.Traversal.{marked}
 use Rattle.roll.proofs.Walked.{unmarked, marked-is}
 use Rattle.roll.proofs.free_slot.Statement.{statement}
 use Rattle.roll.proofs.free_slot.Tie as tie

@@ -1,4 +1,4 @@
--- `roll::index_place` meets its contract. Assumes nothing.
+-- `roll::index_place` visits its contract. Assumes nothing.
 use mathlib.Core.Path.{_≡_}
 use Prim.Native.Nat.{ℕ, zero, suc, _+_, _-_, _*_, _≤_}
 use native.Mathlib.Omega.{arith}

@@ -1,4 +1,4 @@
--- `roll::is_roll_length` meets its contract. Assumes nothing.
+-- `roll::is_roll_length` visits its contract. Assumes nothing.
 use Prim.Native.Nat.{_*_, _≤_}
 use native.Mathlib.Omega.{arith}
 use borrow.Author.Needs.{needs}

@@ -1,11 +1,11 @@
--- `roll::is_roll_of` meets its contract: a way that is none has no form. Assumes nothing.
+-- `roll::is_roll_of` visits its contract: a walk that is none has no form. Assumes nothing.
 use mathlib.Core.Path.{_≡_, sym, _∙_}
 use mathlib.Core.Bool.{true}
 use borrow.Author.Needs.{needs}
 use borrow.Author.Tests.{not-true, not-false}
 use Rattle.lsh.specs.WordSize.{sizeOf}
 use Rattle.checkpoints.specs.Roll.{isRoll, checkpoints, isRollOf}
-use Rattle.roll.proofs.Walked.{way-form, way-count}
+use Rattle.roll.proofs.Walked.{traversal-form, traversal-count}
 use Rattle.roll.proofs.is_roll_of.Statement.{statement}
 use Rattle.roll.proofs.is_roll_of.Tie as tie
 
@@ -14,9 +14,9 @@ unfolding isRollOf
 is-roll-of-spec =
     tie.close
     (tie.spec
-    (λ c s is. rw (sym (way-form _ s is) ∙ not-true _ (c .if1 .taken)))
+    (λ c s is. rw (sym (traversal-form _ s is) ∙ not-true _ (c .if1 .taken)))
     (λ c κs. search needs)
     (λ c s is.
     let r = c .before .before .before .args .r in
-    let form : isRoll (sizeOf (r .w)) s ≡ true = sym (way-form _ s is) ∙ not-false _ (c .before .if1 .left) in
-    rw (form, way-count _ s is form, c .checkpoints .ensures)))
+    let form : isRoll (sizeOf (r .w)) s ≡ true = sym (traversal-form _ s is) ∙ not-false _ (c .before .if1 .left) in
+    rw (form, traversal-count _ s is form, c .checkpoints .ensures)))

@@ -1,4 +1,4 @@
--- `roll::lead_to` meets its contract: the walk over m links. Assumes nothing.
+-- `roll::lead_to` visits its contract: the walk over m links. Assumes nothing.
 use mathlib.Core.Path.{_≡_, refl, ap, _∙_}
 use mathlib.Core.List.{List}
 use Prim.Native.Nat.{ℕ, _-_, _≤_, _<_, zero-le}

@@ -1,4 +1,4 @@
--- `roll::next_index` meets its contract. Assumes nothing.
+-- `roll::next_index` visits its contract. Assumes nothing.
 use mathlib.Core.Path.{ap, _∙_}
 use Prim.Native.Nat.{ℕ}
 use native.Mathlib.Omega.{arith}

@@ -1,6 +1,6 @@
--- `roll::not_a_roll` meets its contract. Assumes nothing.
+-- `roll::not_a_roll` visits its contract. Assumes nothing.
 use borrow.Author.Needs.{needs}
-use Rattle.roll.specs.Way.{notARoll}
+use Rattle.roll.specs.Traversal.{notARoll}
 use Rattle.roll.proofs.not_a_roll.Statement.{statement}
 use Rattle.roll.proofs.not_a_roll.Tie as tie
 

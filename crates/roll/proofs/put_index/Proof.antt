@@ -1,4 +1,4 @@
--- `roll::put_index` meets its contract. Assumes nothing.
+-- `roll::put_index` visits its contract. Assumes nothing.
 use mathlib.Core.Path.{_≡_, sym, ap}
 use Prim.Native.Nat.{ℕ, _+_, _/_, _%_, _≤_}
 use native.Mathlib.Nat.{div-one}

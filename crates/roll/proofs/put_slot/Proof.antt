@@ -1,4 +1,4 @@
--- `roll::put_slot` meets its contract. Assumes nothing.
+-- `roll::put_slot` visits its contract. Assumes nothing.
 use mathlib.Core.Path.{_≡_, sym, ap, _∙_, subst}
 use mathlib.Core.List.{List, _++_, append-assoc}
 use Prim.Native.Nat.{ℕ, _+_, _-_, _≤_}

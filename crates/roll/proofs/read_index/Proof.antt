@@ -1,4 +1,4 @@
--- `roll::read_index` meets its contract. Assumes nothing.
+-- `roll::read_index` visits its contract. Assumes nothing.
 use borrow.Author.Needs.{needs}
 use Rattle.loops.proofs.Words.{word-last, word-more}
 use Rattle.roll.proofs.read_index.Statement.{statement}

@@ -1,4 +1,4 @@
--- `roll::slot_bytes` meets its contract. Assumes nothing.
+-- `roll::slot_bytes` visits its contract. Assumes nothing.
 use mathlib.Core.Path.{ap}
 use Prim.Native.Nat.{ℕ, _+_}
 use native.Mathlib.Omega.{arith}

@@ -1,4 +1,4 @@
--- `roll::slot_count` meets its contract. Assumes nothing.
+-- `roll::slot_count` visits its contract. Assumes nothing.
 use mathlib.Core.Path.{_≡_, sym, ap, _∙_}
 use Prim.Native.Nat.{ℕ, _-_, _/_}
 use native.Mathlib.Nat.{zero-div}

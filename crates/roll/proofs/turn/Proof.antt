@@ -1,4 +1,4 @@
--- `roll::turn` meets its contract. Assumes nothing.
+-- `roll::turn` visits its contract. Assumes nothing.
 use mathlib.Core.Path.{refl, sym, _∙_}
 use borrow.Author.Needs.{needs}
 use borrow.Author.Tests.{not-true, not-false}

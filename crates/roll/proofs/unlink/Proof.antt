@@ -1,4 +1,4 @@
--- `roll::unlink` meets its contract. Assumes nothing.
+-- `roll::unlink` visits its contract. Assumes nothing.
 use mathlib.Core.Path.{ap, _∙_}
 use Prim.Native.Nat.{ℕ, _≤_, _<_, zero-le}
 use native.Mathlib.Omega.{arith}

@@ -1,4 +1,4 @@
--- `roll::walk` meets its contract. Assumes nothing.
+-- `roll::walk` visits its contract. Assumes nothing.
 use mathlib.Core.Path.{sym, _∙_}
 use mathlib.Core.Bool.{false≢true}
 use borrow.Author.Needs.{needs}

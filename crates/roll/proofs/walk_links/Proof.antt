@@ -1,4 +1,4 @@
--- `roll::walk_links` meets its contract. Assumes nothing.
+-- `roll::walk_links` visits its contract. Assumes nothing.
 use mathlib.Core.Path.{_∙_}
 use Prim.Native.Nat.{_-_, _≤_, _<_, zero-le}
 use native.Mathlib.Omega.{arith}
@@ -20,7 +20,7 @@ module _ (z : tie.Start Inv-loop μ-loop) where
   sizes : Sized (sizeOf (z .args .w)) (z .args .roll .now)
   sizes = sized (sizeOf (z .args .w)) (z .args .roll .now) (z .pre .0)
 
--- a slot that was not met before
+-- a slot that was not visited before
 module _ (c : tie.Else2 Inv-loop μ-loop) where
   abbrev at-head : tie.At-loop Inv-loop μ-loop
   at-head = c .before .before .before

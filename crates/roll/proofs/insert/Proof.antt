@@ -1,4 +1,4 @@
--- `roll::lay` meets its contract. Assumes nothing.
+-- `roll::insert` visits its contract. Assumes nothing.
 use mathlib.Core.Path.{_≡_, sym, ap, _∙_}
 use mathlib.Core.List.{List}
 use Prim.Native.Nat.{ℕ, _≤_, _<_}
@@ -8,18 +8,18 @@ use lib.ListN.{length}
 use borrow.Author.Needs.{needs}
 use Rattle.lsh.specs.WordSize.{WordSize, sizeOf}
 use Rattle.lsh.proofs.Bytes.{Octets, octets}
-use Rattle.roll.specs.declared.Way.{Way}
+use Rattle.roll.specs.declared.Traversal.{Traversal}
 use Rattle.checkpoints.specs.Slots.{slotCount}
 use Rattle.checkpoints.specs.Roll.{links}
 use Rattle.checkpoints.specs.FreeSlot.{freeSlot}
-use Rattle.checkpoints.specs.Checkpoints.{withIndex, withSlot, leadTo, taken, laid}
-use Rattle.roll.specs.Way.{wayOf}
+use Rattle.checkpoints.specs.Checkpoints.{withIndex, withSlot, leadTo, taken, inserted}
+use Rattle.roll.specs.Traversal.{traversalOf}
 use Rattle.checkpoints.proofs.Form.{Linked, linked, Sized, sized}
 use Rattle.checkpoints.proofs.Shown.{lead-in, taken-within}
 use Rattle.checkpoints.proofs.Writes.{slot-size}
-use Rattle.roll.proofs.Walked.{known, way-is, way-more}
-use Rattle.roll.proofs.lay.Statement.{statement}
-use Rattle.roll.proofs.lay.Tie as tie
+use Rattle.roll.proofs.Walked.{known, traversal-is, traversal-more}
+use Rattle.roll.proofs.insert.Statement.{statement}
+use Rattle.roll.proofs.insert.Tie as tie
 
 module _ (z : tie.Start) where
   abbrev Z : WordSize
@@ -37,17 +37,17 @@ module _ (z : tie.Start) where
   sizes : Sized Z S
   sizes = sized Z S (have .right)
 
-  way : z .args .y ≡ known Z ok S (z .pre .2)
-  way = z .pre .3 ∙ way-is Z ok S (z .pre .2)
+  traversal : z .args .y ≡ known Z ok S (z .pre .2)
+  traversal = z .pre .3 ∙ traversal-is Z ok S (z .pre .2)
 
   slots : z .args .y .slots ≡ slotCount Z (length S)
-  slots = ap (λ (y : Way). y .slots) way
+  slots = ap (λ (y : Traversal). y .slots) traversal
 
   count : z .args .y .count ≡ length (links Z S)
-  count = ap (λ (y : Way). y .count) way
+  count = ap (λ (y : Traversal). y .count) traversal
 
   last : z .args .y .last ≡ leadTo Z S (length (links Z S))
-  last = ap (λ (y : Way). y .last) way
+  last = ap (λ (y : Traversal). y .last) traversal
 
   room : length (links Z S) < slotCount Z (length S)
   room = omega (arith, z .pre .4, slots, count)
@@ -59,7 +59,7 @@ free-is : (c : tie.After-free-slot) → c .free-slot .result ≡ taken (Z (c .be
 unfolding taken
 free-is c =
     let z = c .before .before .before in
-    c .free-slot .ensures (links (Z z) (S z)) (ap (λ (y : Way). y .marks) (way z)) ∙ ap (λ (k : ℕ). freeSlot k (links (Z z) (S z))) (slots z)
+    c .free-slot .ensures (links (Z z) (S z)) (ap (λ (y : Traversal). y .marks) (traversal z)) ∙ ap (λ (k : ℕ). freeSlot k (links (Z z) (S z))) (slots z)
 
 free-in : (c : tie.After-free-slot) → (0 < c .free-slot .result) × (c .free-slot .result ≤ slotCount (Z (c .before .before .before)) (length (S (c .before .before .before))))
 free-in c = rw (free-is c) (within (c .before .before .before))
@@ -72,10 +72,10 @@ written c =
     ap length (c .put-slot .ensures)
     ∙ slot-size (Z z) (ok z) (slotCount (Z z) (length (S z))) (S z) (sizes z .size) (f .free-slot .result) (free-in f .1) (free-in f .0) (z .args .t) (z .pre .1)
 
-laid-is : (z : WordSize) (s t : List ℕ) (k : ℕ) {u : List ℕ} {l i : ℕ} → u ≡ withSlot z s i t → l ≡ leadTo z s (length (links z s)) → i ≡ taken z s
-    → withIndex z u l i ≡ laid z (record { number = k; chain = t }) s
-unfolding laid
-laid-is z s t k slot last chosen = rw (slot, last, chosen)
+inserted-is : (z : WordSize) (s t : List ℕ) (k : ℕ) {u : List ℕ} {l i : ℕ} → u ≡ withSlot z s i t → l ≡ leadTo z s (length (links z s)) → i ≡ taken z s
+    → withIndex z u l i ≡ inserted z (record { number = k; chain = t }) s
+unfolding inserted
+inserted-is z s t k slot last chosen = rw (slot, last, chosen)
 
 returns : tie.Need-returns
 returns c =
@@ -83,14 +83,14 @@ returns c =
     let s = p .before .before .before .before in
     let f = s .before .before in
     let z = f .before .before .before in
-    let bytes : (k : ℕ) → p .put-index .last .1 .0 ≡ laid (Z z) (record { number = k; chain = z .args .t }) (S z) =
-    λ k. p .put-index .ensures ∙ laid-is (Z z) (S z) (z .args .t) k (s .put-slot .ensures) (last z) (free-is f) in (
+    let bytes : (k : ℕ) → p .put-index .last .1 .0 ≡ inserted (Z z) (record { number = k; chain = z .args .t }) (S z) =
+    λ k. p .put-index .ensures ∙ inserted-is (Z z) (S z) (z .args .t) k (s .put-slot .ensures) (last z) (free-is f) in (
       bytes,
-      c .with-link .ensures ∙ way-more (Z z) (ok z) (S z) (z .pre .2) (record { number = 0; chain = z .args .t }) (z .pre .1) (room z) (way z) (free-is f) ∙ ap (wayOf (Z z)) (sym (bytes 0)),
+      c .with-link .ensures ∙ traversal-more (Z z) (ok z) (S z) (z .pre .2) (record { number = 0; chain = z .args .t }) (z .pre .1) (room z) (traversal z) (free-is f) ∙ ap (traversalOf (Z z)) (sym (bytes 0)),
     )
 
-pub lay-spec : {M : Type 1} → statement M
-lay-spec =
+pub insert-spec : {M : Type 1} → statement M
+insert-spec =
     tie.close
     (tie.spec
     (λ c κs. let z = c .before .before in omega (arith, slots z, sizes z .most))
