@@ -1,7 +1,7 @@
 -- An empty piece changes nothing with a roll either: no byte of any roll, and a sound record with a roll of it is returned as it is.
 -- Assumes nothing.
 use mathlib.Core.Path.{_≡_, refl, ap, _∙_}
-use mathlib.Core.Bool.{Bool, true, false, cond}
+use mathlib.Core.Bool.{true, false}
 use mathlib.Core.List.{List, []}
 use Prim.Native.Nat.{ℕ, _+_, _/_}
 use native.Mathlib.Nat.{add-zero}
@@ -9,6 +9,7 @@ use native.Mathlib.Omega.{arith}
 use borrow.Author.Tests.{le-ltb}
 use lib.Dec.{eqb}
 use lib.ListN.{length}
+use Rattle.lsh.proofs.Tests.{either}
 use Rattle.lsh.specs.WordSize.{sizeOf, blockBytes}
 use Rattle.answers.specs.First.{first}
 use Rattle.runs.specs.Limits.{limit}
@@ -38,11 +39,7 @@ none-due r =
 -- whatever the answer is
 pub roll-empty : (r : Record) (roll : List ℕ) → appendedRoll r [] roll ≡ roll
 unfolding appendedRoll ifAccepted
-roll-empty r roll = rw (none-due r) (either (eqb (appendRollCall r [] roll .number) 0))
-  where
-    either : (b : Bool) → cond b roll roll ≡ roll
-    either true = refl
-    either false = refl
+roll-empty r roll = rw (none-due r) (either (λ (s : List ℕ). s ≡ roll) (eqb (appendRollCall r [] roll .number) 0) (λ accepted. refl) (λ refused. refl))
 
 -- a roll of the record has room for no more
 room-empty : (r : Record) (roll : List ℕ) → isRollOf r roll ≡ true → isFull r 0 roll ≡ false

@@ -8,7 +8,7 @@ use native.Mathlib.Omega.{arith}
 use lib.Dec.{T, eqb, eqb→eq, ltb, ltb→lt}
 use Rattle.lsh.specs.Tabulate.{at}
 use Rattle.lsh.specs.WordSize.{sigma, tau, placeOf}
-use Rattle.lsh.proofs.Tests.{and-left, and-right, allBelow, at-allBelow, upTo, at-upTo}
+use Rattle.lsh.proofs.Tests.{and-left, and-right, allPass, at-allPass, upTo, at-upTo}
 
 pub record Permutation (π : List ℕ) : Type 0 where
   pub inside : (l : ℕ) → at π l < 16
@@ -19,17 +19,17 @@ pub record Permutation (π : List ℕ) : Type 0 where
 abbrev placed : List ℕ → ℕ → Bool
 placed π l = ltb (placeOf l π) 16 && (eqb (at π (placeOf l π)) l && eqb (placeOf (at π l) π) l)
 
-permutation : (π : List ℕ) → T (upTo 15 π) → T (allBelow 16 (placed π)) → Permutation π
+permutation : (π : List ℕ) → T (upTo 15 π) → T (allPass 16 (placed π)) → Permutation π
 permutation π u t =
     record {
       inside = λ l. let h : at π l ≤ 15 = at-upTo 15 π u l in omega arith;
-      place-inside = λ l h. ltb→lt _ _ (and-left (ltb (placeOf l π) 16) _ (at-allBelow 16 (placed π) t l h));
+      place-inside = λ l h. ltb→lt _ _ (and-left (ltb (placeOf l π) 16) _ (at-allPass 16 (placed π) t l h));
       at-place = λ l h. eqb→eq _ _ (and-left (eqb (at π (placeOf l π)) l) _ (rest l h));
       place-at = λ l h. eqb→eq _ _ (and-right (eqb (at π (placeOf l π)) l) _ (rest l h));
     }
   where
     rest : (l : ℕ) → l < 16 → T (eqb (at π (placeOf l π)) l && eqb (placeOf (at π l) π) l)
-    rest l h = and-right (ltb (placeOf l π) 16) _ (at-allBelow 16 (placed π) t l h)
+    rest l h = and-right (ltb (placeOf l π) 16) _ (at-allPass 16 (placed π) t l h)
 
 pub sigma-permutes : Permutation sigma
 unfolding sigma placeOf

@@ -1,7 +1,7 @@
 -- Tests that antt computes over a whole table, and what each says of every entry.
 -- Assumes nothing.
 use mathlib.Core.Path.{_≡_, refl, sym, subst}
-use mathlib.Core.Bool.{Bool, true, false, _&&_, _||_, false≢true}
+use mathlib.Core.Bool.{Bool, true, false, cond, _&&_, _||_, false≢true}
 use mathlib.Core.List.{List, [], _∷_}
 use Prim.Native.Nat.{ℕ, zero, suc, _≤_, _<_, zero-le}
 use native.Mathlib.Nat.{not-suc-le-zero}
@@ -9,6 +9,11 @@ use native.Mathlib.Decide.{ℕ-discrete}
 use native.Mathlib.Omega.{arith}
 use lib.Dec.{T, leb, leb→le}
 use Rattle.lsh.specs.Tabulate.{at}
+
+-- what holds of both choices holds of the choice
+pub either : {A : Type 0} (P : A → Type 0) (t : Bool) {u v : A} → (t ≡ true → P u) → (t ≡ false → P v) → P (cond t u v)
+either P true h k = h refl
+either P false h k = k refl
 
 pub and-true : (p q : Bool) → p && q ≡ true → (p ≡ true) × (q ≡ true)
 and-true true q e = (refl, e)
@@ -36,16 +41,16 @@ and-right true b t = t
 and-right false b t = absurd t
 
 -- each number below n passes
-abbrev pub allBelow : ℕ → (ℕ → Bool) → Bool
-allBelow zero p = true
-allBelow (suc n) p = p n && allBelow n p
+abbrev pub allPass : ℕ → (ℕ → Bool) → Bool
+allPass zero p = true
+allPass (suc n) p = p n && allPass n p
 
-pub at-allBelow : (n : ℕ) (p : ℕ → Bool) → T (allBelow n p) → (k : ℕ) → k < n → T (p k)
-at-allBelow zero p t k h = absurd (not-suc-le-zero h)
-at-allBelow (suc n) p t k h = go (at-allBelow n p (and-right (p n) (allBelow n p) t) k) (ℕ-discrete k n)
+pub at-allPass : (n : ℕ) (p : ℕ → Bool) → T (allPass n p) → (k : ℕ) → k < n → T (p k)
+at-allPass zero p t k h = absurd (not-suc-le-zero h)
+at-allPass (suc n) p t k h = go (at-allPass n p (and-right (p n) (allPass n p) t) k) (ℕ-discrete k n)
   where
     go : (k < n → T (p k)) → Dec (k ≡ n) → T (p k)
-    go rest (yes e) = subst (λ (m : ℕ). T (p m)) (sym e) (and-left (p n) (allBelow n p) t)
+    go rest (yes e) = subst (λ (m : ℕ). T (p m)) (sym e) (and-left (p n) (allPass n p) t)
     go rest (no ne) = rest (omega arith)
 
 -- each entry is at most m

@@ -2,7 +2,7 @@
 -- blocks, and its number is by lengths.
 -- Assumes nothing.
 use mathlib.Core.Path.{_≡_, refl, ap, _∙_}
-use mathlib.Core.Bool.{Bool, true, false, not, cond, false≢true}
+use mathlib.Core.Bool.{true, false, not, false≢true}
 use mathlib.Core.List.{List, _++_}
 use Prim.Native.Nat.{ℕ, _+_, _-_, _*_, _/_, _%_, _≤_, _<_, zero-le}
 use native.Mathlib.Nat.{mul-add-div-right, div-eq-of-lt}
@@ -12,6 +12,7 @@ use lib.ListN.{length, take, length-append}
 use lib.Seq.{length-take-le}
 use borrow.Author.Tests.{ltb-false}
 use Rattle.lsh.specs.WordSize.{sizeOf, blockBytes}
+use Rattle.lsh.proofs.Tests.{either}
 use Rattle.lsh.proofs.Figures.{block-some}
 use Rattle.lsh.proofs.Bytes.{bytes-append}
 use Rattle.runs.specs.Limits.{limit}
@@ -39,10 +40,6 @@ pub record OneCall (w : ℕ) (lent : Lent) (t : Tape) (c : Call) (g : Given Tape
   pub sound : SoundTape w (g .next)
   pub counted : forwardCount c (g .answer) + wholeBlocks w (t .bytes) ≡ backwardCount c (g .answer) + wholeBlocks w (g .next .bytes)
   pub byLengths : byLength lent (g .answer .number) ≡ true
-
-either : {A : Type 0} (P : A → Type 0) (t : Bool) {u v : A} → (t ≡ true → P u) → (t ≡ false → P v) → P (cond t u v)
-either P true h k = h refl
-either P false h k = k refl
 
 -- 16 only with a roll
 full-by-length : (lent : Lent) (blocks : ℕ) → tooManyBlocks lent blocks ≡ true → byLength lent 16 ≡ true
