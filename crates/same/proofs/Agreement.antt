@@ -2,12 +2,12 @@
 -- Assumes nothing.
 use mathlib.Core.Path.{_≡_, refl, sym, ap, ap₂, _∙_}
 use mathlib.Core.Bool.{Bool, true, false, not, cond, _&&_, false≢true}
-use mathlib.Core.List.{List}
+use mathlib.Core.List.{List, [], _∷_}
 use Prim.Native.Nat.{ℕ}
-use native.Mathlib.Omega.{arith}
 use borrow.Author.Tests.{eqb-true, eq-eqb}
 use lib.Dec.{eqb}
 use lib.ListN.{length, take}
+use Rattle.answers.proofs.Tests.{Test, test, passed}
 use Rattle.lsh.specs.Bits.{bitsOf}
 use Rattle.lsh.proofs.Tests.{and-true}
 use Rattle.lsh.specs.ByteString.{Bytes}
@@ -91,10 +91,8 @@ module _ (a b : List ℕ) where
 
   pub equal-yes : sameCall a b .number ≡ 0 → a ≡ b → sameCall a b .same ≡ true
   unfolding sameCall
-  equal-yes taken e =
-      go (isReceiptLong a && isReceiptLong b) (wellFormed a && wellFormed b) taken ∙ ap (sameReceipt a) (sym e) ∙ same-self a
-    where
-      go : (long form : Bool) → answer long form (sameReceipt a b) .number ≡ 0 → answer long form (sameReceipt a b) .same ≡ sameReceipt a b
-      go true true is = refl
-      go true false is = absurd (omega arith)
-      go false form is = absurd (omega arith)
+  equal-yes accepted e =
+      let long : Test Sameness = test (not (isReceiptLong a && isReceiptLong b)) (record { number = 13; same = false }) in
+      let form : Test Sameness = test (not (wellFormed a && wellFormed b)) (record { number = 14; same = false }) in
+      let all = passed (λ (c : Sameness). c .number) (long ∷ form ∷ []) (record { number = 0; same = sameReceipt a b }) refl accepted .1 in
+      ap (λ (c : Sameness). c .same) all ∙ ap (sameReceipt a) (sym e) ∙ same-self a

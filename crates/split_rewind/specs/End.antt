@@ -12,12 +12,9 @@ use Rattle.record.specs.Record.{heldLength, heldBytes, isBegun, refused}
 use Rattle.record.specs.Turn.{inTurn}
 use Rattle.rewind.specs.Rewind.{keepsTooMuch, Cut, cutCall}
 
--- how many bytes were handed back of an order of this total: so many blocks, and the held bytes
-abbrev pub handedLength : ℕ → ℕ → ℕ → ℕ
-handedLength w total blocks = blocks * blockBytes (sizeOf w) + heldLength w total
-
+-- how many bytes were handed back: so many blocks, and the held bytes
 unfoldable pub handed : Record → ℕ
-handed r = handedLength (r .w) (r .total) (r .split .blocks)
+handed r = r .split .blocks * blockBytes (sizeOf (r .w)) + heldLength (r .w) (r .total)
 
 -- those whose first remain: the block handed back last, or the held bytes if none was
 unfoldable pub lastBytes : Record → List ℕ

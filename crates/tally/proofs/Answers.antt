@@ -1,13 +1,13 @@
 -- The answer of Tally to a list of right length, and to one that it accepts.
 -- Assumes nothing.
 use mathlib.Core.Path.{_≡_, refl}
-use mathlib.Core.Bool.{Bool, true, false, cond}
-use mathlib.Core.List.{List}
+use mathlib.Core.Bool.{Bool, false, cond}
+use mathlib.Core.List.{List, [], _∷_}
 use Prim.Native.Nat.{ℕ, _*_, _%_, _≤_, _<_}
-use native.Mathlib.Omega.{arith}
 use borrow.Author.Tests.{eq-eqb, lt-ltb, le-ltb}
 use lib.Dec.{ltb}
 use lib.ListN.{length}
+use Rattle.answers.proofs.Tests.{test, passed}
 use Rattle.finalization.specs.Receipt.{receiptBytes}
 use Rattle.tally.specs.declared.Counts.{Counts}
 use Rattle.tally.specs.Tally.{mostReceipts, receiptCount, receiptsOf, firstMalformed, isBadLength, refusedTally, counted, tallyCall}
@@ -32,9 +32,7 @@ answer s bad malformed = cond bad (refusedTally 13 0) (cond malformed (refusedTa
 -- a list that is accepted is counted
 pub accepted : (s : List ℕ) → tallyCall s .number ≡ 0 → tallyCall s ≡ counted (receiptsOf s)
 unfolding tallyCall refusedTally
-accepted s taken = go (isBadLength s) (ltb (firstMalformed s 0 (receiptCount s)) (receiptCount s)) taken
-  where
-    go : (bad malformed : Bool) → answer s bad malformed .number ≡ 0 → answer s bad malformed ≡ counted (receiptsOf s)
-    go false false is = refl
-    go false true is = absurd (omega arith)
-    go true malformed is = absurd (omega arith)
+accepted s is =
+    let bad = test (isBadLength s) (refusedTally 13 0) in
+    let malformed = test (ltb (firstMalformed s 0 (receiptCount s)) (receiptCount s)) (refusedTally 14 (firstMalformed s 0 (receiptCount s))) in
+    passed (λ (c : Counts). c .number) (bad ∷ malformed ∷ []) (counted (receiptsOf s)) refl is .1

@@ -16,20 +16,24 @@ use Rattle.close.proofs.Answers.{Accepted, accepted}
 use Rattle.close.proofs.close.Statement.{statement}
 use Rattle.close.proofs.close.Tie as tie
 
+-- the entry of the call
+abbrev start : tie.Else1 → tie.Start
+start c = c .before .before .before
+
 -- the call is accepted
 passed : (c : tie.Else1)
-    → Accepted (c .before .before .before .args .r) (c .before .before .before .args .last) (c .before .before .before .args .e) (length (c .before .before .before .args .output .now))
+    → Accepted (start c .args .r) (start c .args .last) (start c .args .e) (length (start c .args .output .now))
 passed c =
-    let a = c .before .before .before .args in
+    let a = start c .args in
     accepted (a .r) (a .last) (a .e) (length (a .output .now)) (sym (c .before .answer .ensures) ∙ c .if1 .left)
 
-is-sound : (c : tie.Else1) → Sound (c .before .before .before .args .r)
-is-sound c = sounds (c .before .before .before .args .r) (passed c .soundRecord)
+is-sound : (c : tie.Else1) → Sound (start c .args .r)
+is-sound c = sounds (start c .args .r) (passed c .soundRecord)
 
 write-receipt-requires : tie.Need-write-receipt-requires
 write-receipt-requires c κs =
     let p = c .before .before .before in
-    let r = p .before .before .before .args .r in
+    let r = start p .args .r in
     let s : Sound r = is-sound p in
     (s .word, digest-most (r .w) (r .n) (s .digestLength), c .before .final-chain .ensures .0, passed p .end .room)
 
@@ -37,7 +41,7 @@ returns-2 : tie.Need-returns-2
 unfolding closeOutput
 returns-2 c =
     let p = c .before .before .before .before .before .before in
-    let z = p .before .before .before in
+    let z = start p in
     let r = z .args .r in
     written-output _ _ _ (z .args .output .now)
     (sym (p .before .answer .ensures) ∙ p .if1 .left)

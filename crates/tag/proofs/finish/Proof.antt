@@ -18,18 +18,22 @@ use Rattle.tag.proofs.Answers.{finish-accepted}
 use Rattle.tag.proofs.finish.Statement.{statement}
 use Rattle.tag.proofs.finish.Tie as tie
 
+-- the entry of the call
+abbrev start : tie.Else1 → tie.Start
+start c = c .before .before .before .before
+
 -- the call is accepted
 passed : (c : tie.Else1)
-    → (sound (c .before .before .before .before .args .r) ≡ true) × (c .before .before .before .before .args .r .n % 8 ≡ 0)
-    × (tagBytes (c .before .before .before .before .args .r .n) ≤ length (c .before .before .before .before .args .output .now))
+    → (sound (start c .args .r) ≡ true) × (start c .args .r .n % 8 ≡ 0)
+    × (tagBytes (start c .args .r .n) ≤ length (start c .args .output .now))
 passed c =
-    let a = c .before .before .before .before .args in
+    let a = start c .args in
     finish-accepted (a .r) (length (a .key .now)) (length (a .output .now)) (sym (c .before .finish-answer .ensures) ∙ c .if1 .left)
 
 -- the digest fits into its array
-few : (c : tie.Else1) → c .before .before .before .before .args .r .n ≤ longestDigest 64
+few : (c : tie.Else1) → start c .args .r .n ≤ longestDigest 64
 few c =
-    let r = c .before .before .before .before .args .r in
+    let r = start c .args .r in
     let s = sounds r (passed c .0) in
     digest-longest (r .w) (r .n) (s .word) (s .digestLength)
 
@@ -50,7 +54,7 @@ finish-spec =
     (λ c. sym (length-take-le _ _ (inside (c .before))))
     (λ c κs.
     let p = c .before .before in
-    let s = sounds (p .before .before .before .before .args .r) (passed p .0) in
+    let s = sounds (start p .args .r) (passed p .0) in
     (s .word, s .digestLength, passed p .1))
     (λ c κs.
     let p = c .before .before .before .before in
@@ -59,7 +63,7 @@ finish-spec =
     (λ c.
     let d = c .before .before .before .before .before .before in
     let p = d .before in
-    let a = p .before .before .before .before .args in
+    let a = start p .args in
     let size : a .r .n / 8 ≡ (a .r .n + 7) / 8 = omega (arith, passed p .1) in
     written-output _ _ _ (a .output .now) (sym (p .before .finish-answer .ensures) ∙ p .if1 .left)
     (c .before .before .before .before .tag-of .ensures

@@ -19,10 +19,14 @@ use Rattle.tag.proofs.Started.{opened-sound}
 use Rattle.tag.proofs.start.Statement.{statement}
 use Rattle.tag.proofs.start.Tie as tie
 
+-- the entry of the call
+abbrev start : tie.Else1 → tie.Start
+start c = c .before .before .before
+
 -- the call is accepted
-passed : (c : tie.Else1) → Keyed (c .before .before .before .args .w) (c .before .before .before .args .n) (length (c .before .before .before .args .key .now)) 0
+passed : (c : tie.Else1) → Keyed (start c .args .w) (start c .args .n) (length (start c .args .key .now)) 0
 passed c =
-    let a = c .before .before .before .args in
+    let a = start c .args in
     keyed (a .w) (a .n) (length (a .key .now)) 0 (sym (c .before .key-answer .ensures) ∙ c .if1 .left)
 
 -- a block fits into the array

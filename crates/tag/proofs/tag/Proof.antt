@@ -12,12 +12,16 @@ use Rattle.tag.proofs.Answers.{Keyed, tag-accepted}
 use Rattle.tag.proofs.tag.Statement.{statement}
 use Rattle.tag.proofs.tag.Tie as tie
 
+-- the entry of the call
+abbrev start : tie.Else1 → tie.Start
+start c = c .before .before .before .before .before
+
 -- the call is accepted
 passed : (c : tie.Else1)
-    → Keyed (c .before .before .before .before .before .args .w) (c .before .before .before .before .before .args .n) (length (c .before .before .before .before .before .args .key .now)) (length (c .before .before .before .before .before .args .message .now))
-    × (tagBytes (c .before .before .before .before .before .args .n) ≤ length (c .before .before .before .before .before .args .output .now))
+    → Keyed (start c .args .w) (start c .args .n) (length (start c .args .key .now)) (length (start c .args .message .now))
+    × (tagBytes (start c .args .n) ≤ length (start c .args .output .now))
 passed c =
-    let a = c .before .before .before .before .before .args in
+    let a = start c .args in
     tag-accepted (a .w) (a .n) (length (a .key .now)) (length (a .message .now)) (length (a .output .now)) (sym (c .before .answer .ensures) ∙ c .if1 .left)
 
 pub tag-spec : {M : Type 1} → statement M
@@ -36,6 +40,6 @@ tag-spec =
     (λ c. search needs)
     (λ c.
     let p = c .before .before .before .before .before in
-    let a = p .before .before .before .before .before .args in
+    let a = start p .args in
     written-output _ _ _ (a .output .now) (sym (p .before .answer .ensures) ∙ p .if1 .left)
     (c .before .before .before .before .hmac .ensures) (c .before .before .write-tag .ensures)))

@@ -12,11 +12,15 @@ use Rattle.whole.proofs.Answers.{Accepted, accepted, receipt-is}
 use Rattle.whole.proofs.whole.Statement.{statement}
 use Rattle.whole.proofs.whole.Tie as tie
 
+-- the entry of the call
+abbrev start : tie.Else1 → tie.Start
+start c = c .before .before .before .before
+
 -- the call is accepted
 passed : (c : tie.Else1)
-    → Accepted (c .before .before .before .before .args .w) (c .before .before .before .before .args .n) (length (c .before .before .before .before .args .message .now)) (c .before .before .before .before .args .last) (c .before .before .before .before .args .e) (length (c .before .before .before .before .args .output .now))
+    → Accepted (start c .args .w) (start c .args .n) (length (start c .args .message .now)) (start c .args .last) (start c .args .e) (length (start c .args .output .now))
 passed c =
-    let a = c .before .before .before .before .args in
+    let a = start c .args in
     accepted (a .w) (a .n) (length (a .message .now)) (a .last) (a .e) (length (a .output .now)) (sym (c .before .answer .ensures) ∙ c .if1 .left)
 
 pub whole-spec : {M : Type 1} → statement M
@@ -36,13 +40,13 @@ whole-spec =
     (passed p .wordSize, opened-chain _ _ (c .opening .ensures)))
     (λ c κs.
     let p = c .before .before .before .before in
-    let z = p .before .before .before .before in
+    let z = start p in
     let a = passed p in
     (a .wordSize, digest-most _ _ (a .digestLength), run-chain _ _ (opened-chain _ _ (c .before .before .opening .ensures)) (c .before .message-chain .ensures), a .end .room))
     (λ c. search needs)
     (λ c.
     let p = c .before .before .before .before .before .before .before in
-    let z = p .before .before .before .before in
+    let z = start p in
     written-output _ _ _ (z .args .output .now)
     (sym (p .before .answer .ensures) ∙ p .if1 .left)
     (receipt-is (z .args .w) (z .args .n) (z .args .message .now) (z .args .last) (z .args .e)
