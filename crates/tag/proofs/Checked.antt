@@ -12,9 +12,9 @@ use Rattle.buffers.specs.Equal.{equal}
 use Rattle.buffers.proofs.Equal.{equal-self, equal-true}
 use Rattle.hmac.specs.Hmac.{hashBytes, innerKey, outerKey, tagOf, hmac}
 use Rattle.hmac.proofs.Digests.{length-hash}
-use Rattle.tag.specs.KeyAnswer.{tagBytes, keyAnswer}
+use Rattle.tag_answers.specs.KeyAnswer.{tagBytes, keyAnswer}
 use Rattle.tag.specs.Check.{checkCall}
-use Rattle.tag.proofs.Answers.{Keyed, keyed}
+use Rattle.tag_answers.proofs.Accepted.{Keyed, keyed}
 
 module _ (w n : ℕ) (key m tag : List ℕ) where
   abbrev answer : ℕ

@@ -1,4 +1,3 @@
 -- Laws of the tags.
-pub mod Answers
 pub mod Started
 pub mod Checked

@@ -19,9 +19,9 @@ use Rattle.append.specs.Append.{appendAccepted}
 use Rattle.append.proofs.Joins.{record-piece}
 use Rattle.hmac.specs.Hmac.{innerKey}
 use Rattle.hmac.proofs.Keys.{inner-length}
-use Rattle.tag.specs.KeyAnswer.{keyAnswer}
+use Rattle.tag_answers.specs.KeyAnswer.{keyAnswer}
 use Rattle.tag.specs.Start.{startCall}
-use Rattle.tag.proofs.Answers.{Keyed, keyed}
+use Rattle.tag_answers.proofs.Accepted.{Keyed, keyed}
 
 pub opened-sound : (w n : ℕ) → isWordSize w ≡ true → isDigestLength w n ≡ true → sound (opened w n) ≡ true
 opened-sound w n word digest = ap sound (sym (record-none w n)) ∙ record-sound w n [] word digest zero-le

@@ -8,7 +8,7 @@ use lib.ListN.{length}
 use Rattle.buffers.specs.Equal.{equal}
 use Rattle.same.specs.declared.Sameness.{Sameness}
 use Rattle.hmac.specs.Hmac.{hmac}
-use Rattle.tag.specs.KeyAnswer.{keyAnswer}
+use Rattle.tag_answers.specs.KeyAnswer.{keyAnswer}
 
 -- yes exactly if nothing is refused and the tag is that of the message
 unfoldable pub checkCall : ℕ → ℕ → List ℕ → List ℕ → List ℕ → Sameness

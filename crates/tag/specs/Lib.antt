@@ -1,4 +1,3 @@
-pub mod KeyAnswer
 pub mod Tag
 pub mod Start
 pub mod Finish

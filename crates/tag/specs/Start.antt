@@ -9,7 +9,7 @@ use Rattle.record.specs.Open.{opened}
 use Rattle.record.specs.Turn.{answered}
 use Rattle.append.specs.Append.{appendAccepted}
 use Rattle.hmac.specs.Hmac.{innerKey}
-use Rattle.tag.specs.KeyAnswer.{keyAnswer}
+use Rattle.tag_answers.specs.KeyAnswer.{keyAnswer}
 
 -- the key's inner block appended to a newly opened record, as the first of the pieces; a refused start returns a record of zeros
 unfoldable pub startCall : ℕ → ℕ → List ℕ → Outcome

@@ -4,10 +4,10 @@ ghost use mathlib.Core.List.{_++_};
 ghost use Prim.Native.Nat.{_≤_};
 ghost use lib.ListN.{length, take, drop};
 ghost use Rattle.runs.specs.Limits.{longestBlock};
-ghost use Rattle.tag.specs.KeyAnswer.{tagBytes, keyAnswer, roomAnswer};
-ghost use Rattle.tag.specs.Tag.{tagAnswer, tagOutput};
+ghost use Rattle.tag_answers.specs.KeyAnswer.{tagBytes, tagAnswer, finishAnswer};
+ghost use Rattle.tag.specs.Tag.{tagOutput};
 ghost use Rattle.tag.specs.Start.{startCall};
-ghost use Rattle.tag.specs.Finish.{finishAnswer, finishOutput};
+ghost use Rattle.tag.specs.Finish.{finishOutput};
 ghost use Rattle.tag.specs.Check.{checkCall};
 use record::Outcome;
 use record::Record;
@@ -18,7 +18,7 @@ use same::Sameness;
 pub fn tag(w: u64, n: u64, key: &[u8], message: &[u8], output: &mut [u8]) -> u32
     ensures { λ r. ⌜ (r ≡ tagAnswer w n (length (now (key .entry))) (length (now (message .entry))) (length (now (output .entry)))) × (now (output .exit) ≡ tagOutput w n (now (key .entry)) (now (message .entry)) (now (output .entry))) ⌝ }
 {
-    let a = answer(w, n, key.len(), message.len(), output.len());
+    let a = tag_answers::answer(w, n, key.len(), message.len(), output.len());
     if a != 0 {
         return a;
     }
@@ -30,7 +30,7 @@ pub fn tag(w: u64, n: u64, key: &[u8], message: &[u8], output: &mut [u8]) -> u32
 pub fn start(w: u64, n: u64, key: &[u8]) -> Outcome
     ensures { λ o. ⌜ o ≡ startCall w n (now (key .entry)) ⌝ }
 {
-    let a = key_answer(w, n, key.len(), 0);
+    let a = tag_answers::key_answer(w, n, key.len(), 0);
     if a != 0 {
         return record::refused(a, record::no_record());
     }
@@ -45,7 +45,7 @@ pub fn start(w: u64, n: u64, key: &[u8]) -> Outcome
 pub fn finish(r: Record, key: &[u8], output: &mut [u8]) -> u32
     ensures { λ a. ⌜ (a ≡ finishAnswer r (length (now (key .entry))) (length (now (output .entry)))) × (now (output .exit) ≡ finishOutput r (now (key .entry)) (now (output .entry))) ⌝ }
 {
-    let a = finish_answer(r, key.len(), output.len());
+    let a = tag_answers::finish_answer(r, key.len(), output.len());
     if a != 0 {
         return a;
     }
@@ -61,7 +61,7 @@ pub fn finish(r: Record, key: &[u8], output: &mut [u8]) -> u32
 pub fn check(w: u64, n: u64, key: &[u8], message: &[u8], tag: &[u8]) -> Sameness
     ensures { λ r. ⌜ r ≡ checkCall w n (now (key .entry)) (now (message .entry)) (now (tag .entry)) ⌝ }
 {
-    let a = key_answer(w, n, key.len(), message.len());
+    let a = tag_answers::key_answer(w, n, key.len(), message.len());
     if a != 0 {
         return Sameness {
             number: a,
@@ -84,60 +84,4 @@ fn write_tag(n: u64, t: [u8; LONGEST_BLOCK], output: &mut [u8])
 {
     let size = (n / 8) as usize;
     buffers::put(output, 0, &t[..size]);
-}
-
-// The answer for one message. Nothing is hashed before it is known.
-fn answer(w: u64, n: u64, key: usize, message: usize, size: usize) -> u32
-    ensures { λ r. ⌜ r ≡ tagAnswer w n key message size ⌝ }
-{
-    let a = key_answer(w, n, key, message);
-    if a != 0 {
-        return a;
-    }
-    room_answer(n, size)
-}
-
-// The answer by w, n and the lengths of the key and the message.
-fn key_answer(w: u64, n: u64, key: usize, message: usize) -> u32
-    ensures { λ r. ⌜ r ≡ keyAnswer w n key message ⌝ }
-{
-    if !runs::is_word_size(w) {
-        return 1;
-    }
-    if !runs::is_digest_length(w, n) {
-        return 2;
-    }
-    if n % 8 != 0 {
-        return 18;
-    }
-    if (runs::LIMIT < key) | (runs::LIMIT - runs::block_bytes(w) < message) {
-        return 5;
-    }
-    0
-}
-
-// The answer of a finish.
-fn finish_answer(r: Record, key: usize, size: usize) -> u32
-    ensures { λ a. ⌜ a ≡ finishAnswer r key size ⌝ }
-{
-    if !record::is_sound(r) {
-        return 3;
-    }
-    if r.n % 8 != 0 {
-        return 18;
-    }
-    if runs::LIMIT < key {
-        return 5;
-    }
-    room_answer(r.n, size)
-}
-
-// The answer by the size of the output.
-fn room_answer(n: u64, size: usize) -> u32
-    ensures { λ r. ⌜ r ≡ roomAnswer n size ⌝ }
-{
-    if (size as u64) < n / 8 {
-        return 12;
-    }
-    0
 }

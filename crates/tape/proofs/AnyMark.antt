@@ -13,8 +13,9 @@ use Rattle.finalization.specs.Receipt.{receiptBytes, receipt}
 use Rattle.close.specs.Close.{closeAnswer, closedDigest, closeOutput}
 use Rattle.lsh.specs.Bits.{bytesOfBits}
 use Rattle.hmac.specs.Hmac.{tagOf}
-use Rattle.tag.specs.KeyAnswer.{tagBytes}
-use Rattle.tag.specs.Finish.{finishAnswer, finishOutput}
+use Rattle.tag_answers.specs.KeyAnswer.{tagBytes}
+use Rattle.tag_answers.specs.KeyAnswer.{finishAnswer}
+use Rattle.tag.specs.Finish.{finishOutput}
 
 module _ (r : Record) (s : Split) (ok : sound r ≡ true) (still : sound (withSplit r s) ≡ true) (last e : ℕ) where
   pub same-answer-unfinished : (size : ℕ) → closeAnswer (withSplit r s) last e size ≡ closeAnswer r last e size

@@ -23,10 +23,12 @@ use Rattle.close.specs.Close.{closedDigest}
 use Rattle.tape.proofs.Messages.{closed-digest}
 use Rattle.hmac.specs.Hmac.{hashBytes, innerKey, tagOf, hmac}
 use Rattle.hmac.proofs.Keys.{inner-length, inner-bytes}
-use Rattle.tag.specs.KeyAnswer.{isWholeBytes, tagBytes, keyAnswer}
-use Rattle.tag.specs.Tag.{tagAnswer, tagOutput}
-use Rattle.tag.specs.Finish.{finishAnswer, finishOutput}
-use Rattle.tag.proofs.Answers.{Keyed}
+use Rattle.tag_answers.specs.KeyAnswer.{isWholeBytes, tagBytes, keyAnswer}
+use Rattle.tag_answers.specs.KeyAnswer.{tagAnswer}
+use Rattle.tag.specs.Tag.{tagOutput}
+use Rattle.tag_answers.specs.KeyAnswer.{finishAnswer}
+use Rattle.tag.specs.Finish.{finishOutput}
+use Rattle.tag_answers.proofs.Accepted.{Keyed}
 
 -- the digest that a record of bytes gives without extra bits
 inner-digest : (w n : ℕ) (m : List ℕ) → isWordSize w ≡ true → Bytes m → bytesOfBits (closedDigest (recordOf w n m) 0 0) ≡ hashBytes w n m

@@ -9,11 +9,13 @@ use Rattle.lsh.specs.ByteString.{ByteString}
 use Rattle.record.specs.declared.Record.{Record}
 use Rattle.record.specs.Record.{refused}
 use Rattle.hmac.specs.Hmac.{innerKey}
-use Rattle.tag.specs.Tag.{tagAnswer, tagOutput}
+use Rattle.tag_answers.specs.KeyAnswer.{tagAnswer}
+use Rattle.tag.specs.Tag.{tagOutput}
 use Rattle.tag.specs.Start.{startCall}
-use Rattle.tag.specs.Finish.{finishAnswer, finishOutput}
+use Rattle.tag_answers.specs.KeyAnswer.{finishAnswer}
+use Rattle.tag.specs.Finish.{finishOutput}
 use Rattle.append.specs.Pieces.{afterPieces, acceptedBytes}
-use Rattle.tag.proofs.Answers.{Keyed}
+use Rattle.tag_answers.proofs.Accepted.{Keyed}
 use Rattle.tag.proofs.Started.{start-accepted, started-record, started-length, keyed-message}
 use Rattle.tape.proofs.Finished.{finish-answer, finish-output}
 use Rattle.append.proofs.Pieces.{Joined, joined}

@@ -13,10 +13,12 @@ use Rattle.record.specs.declared.Split.{Split}
 use Rattle.record.specs.Split.{notBegun}
 use Rattle.record.specs.Record.{sound, withSplit, recordOf}
 use Rattle.hmac.specs.Hmac.{innerKey}
-use Rattle.tag.specs.Tag.{tagAnswer, tagOutput}
+use Rattle.tag_answers.specs.KeyAnswer.{tagAnswer}
+use Rattle.tag.specs.Tag.{tagOutput}
 use Rattle.tag.specs.Start.{startCall}
-use Rattle.tag.specs.Finish.{finishAnswer, finishOutput}
-use Rattle.tag.proofs.Answers.{Keyed}
+use Rattle.tag_answers.specs.KeyAnswer.{finishAnswer}
+use Rattle.tag.specs.Finish.{finishOutput}
+use Rattle.tag_answers.proofs.Accepted.{Keyed}
 use Rattle.tag.proofs.Started.{start-accepted, keyed-message}
 use Rattle.tape.proofs.Finished.{finish-answer, finish-output}
 use Rattle.tape.proofs.AnyMark.{finish-answer-unfinished, finish-output-unfinished}

@@ -8,7 +8,7 @@ use borrow.Author.Tests.{eq-eqb, ne-eqb}
 use Rattle.runs.specs.Limits.{longestBlock}
 use Rattle.runs.proofs.Limits.{digest-longest}
 use Rattle.tag.specs.Check.{checkCall}
-use Rattle.tag.proofs.Answers.{Keyed, keyed}
+use Rattle.tag_answers.proofs.Accepted.{Keyed, keyed}
 use Rattle.tag.proofs.check.Statement.{statement}
 use Rattle.tag.proofs.check.Tie as tie
 

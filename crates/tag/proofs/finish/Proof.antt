@@ -11,10 +11,10 @@ use Rattle.runs.proofs.Limits.{digest-longest}
 use Rattle.record.specs.Record.{sound}
 use Rattle.record.proofs.Sound.{sounds}
 use Rattle.hmac.specs.Hmac.{tagOf}
-use Rattle.tag.specs.KeyAnswer.{tagBytes}
+use Rattle.tag_answers.specs.KeyAnswer.{tagBytes}
 use Rattle.tag.specs.Finish.{finishOutput}
 use Rattle.answers.proofs.Output.{refused-output, written-output}
-use Rattle.tag.proofs.Answers.{finish-accepted}
+use Rattle.tag_answers.proofs.Accepted.{finish-accepted}
 use Rattle.tag.proofs.finish.Statement.{statement}
 use Rattle.tag.proofs.finish.Tie as tie
 

@@ -14,7 +14,7 @@ use Rattle.append.specs.Append.{appendAccepted}
 use Rattle.hmac.specs.Hmac.{innerByte, xorEach, innerKey}
 use Rattle.hmac.proofs.Keys.{xored-front}
 use Rattle.tag.specs.Start.{startCall}
-use Rattle.tag.proofs.Answers.{Keyed, keyed}
+use Rattle.tag_answers.proofs.Accepted.{Keyed, keyed}
 use Rattle.tag.proofs.Started.{opened-sound}
 use Rattle.tag.proofs.start.Statement.{statement}
 use Rattle.tag.proofs.start.Tie as tie

@@ -5,10 +5,10 @@ use native.Mathlib.Omega.{arith}
 use lib.ListN.{length}
 use borrow.Author.Needs.{needs}
 use Rattle.runs.proofs.Limits.{digest-longest}
-use Rattle.tag.specs.KeyAnswer.{tagBytes}
+use Rattle.tag_answers.specs.KeyAnswer.{tagBytes}
 use Rattle.tag.specs.Tag.{tagOutput}
 use Rattle.answers.proofs.Output.{refused-output, written-output}
-use Rattle.tag.proofs.Answers.{Keyed, tag-accepted}
+use Rattle.tag_answers.proofs.Accepted.{Keyed, tag-accepted}
 use Rattle.tag.proofs.tag.Statement.{statement}
 use Rattle.tag.proofs.tag.Tie as tie
 

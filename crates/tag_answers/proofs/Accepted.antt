@@ -15,9 +15,7 @@ use Rattle.lsh.proofs.Tests.{or-false}
 use Rattle.runs.proofs.Limits.{block-most}
 use Rattle.record.specs.declared.Record.{Record}
 use Rattle.record.specs.Record.{sound}
-use Rattle.tag.specs.KeyAnswer.{isWholeBytes, tagBytes, keyAnswer, roomAnswer}
-use Rattle.tag.specs.Tag.{tagAnswer}
-use Rattle.tag.specs.Finish.{finishAnswer}
+use Rattle.tag_answers.specs.KeyAnswer.{isWholeBytes, tagBytes, keyAnswer, roomAnswer, tagAnswer, finishAnswer}
 
 -- a call that the tests of w, n and the lengths accept
 pub record Keyed (w n keyLength len : ℕ) : Type 0 where

@@ -1,10 +1,10 @@
--- `tag::answer` meets its contract. Assumes nothing.
+-- `tag_answers::answer` meets its contract. Assumes nothing.
 use native.Mathlib.Omega.{arith}
 use borrow.Author.Needs.{needs}
 use Rattle.answers.proofs.First.{refused-first, passed-first}
-use Rattle.tag.specs.Tag.{tagAnswer}
-use Rattle.tag.proofs.answer.Statement.{statement}
-use Rattle.tag.proofs.answer.Tie as tie
+use Rattle.tag_answers.specs.KeyAnswer.{tagAnswer}
+use Rattle.tag_answers.proofs.answer.Statement.{statement}
+use Rattle.tag_answers.proofs.answer.Tie as tie
 
 -- `omega` names no call, so that an edit which makes them the other way round is refused at the equation.
 pub answer-spec : {M : Type 1} → statement M

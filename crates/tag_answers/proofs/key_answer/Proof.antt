@@ -1,4 +1,4 @@
--- `tag::key_answer` meets its contract. Assumes nothing.
+-- `tag_answers::key_answer` meets its contract. Assumes nothing.
 use mathlib.Core.Path.{_≡_, sym, _∙_}
 use mathlib.Core.Bool.{true}
 use native.Mathlib.Omega.{arith}
@@ -7,10 +7,10 @@ use borrow.Author.Tests.{eq-eqb, ne-eqb, not-true, not-false}
 use Rattle.lsh.specs.WordSize.{isWordSize}
 use Rattle.runs.specs.Limits.{isDigestLength, limit}
 use Rattle.runs.proofs.Limits.{block-most}
-use Rattle.tag.specs.KeyAnswer.{isWholeBytes, keyAnswer}
-use Rattle.tag.proofs.Answers.{tests-length}
-use Rattle.tag.proofs.key_answer.Statement.{statement}
-use Rattle.tag.proofs.key_answer.Tie as tie
+use Rattle.tag_answers.specs.KeyAnswer.{isWholeBytes, keyAnswer}
+use Rattle.tag_answers.proofs.Accepted.{tests-length}
+use Rattle.tag_answers.proofs.key_answer.Statement.{statement}
+use Rattle.tag_answers.proofs.key_answer.Tie as tie
 
 word : (c : tie.Else1) → isWordSize (c .before .before .args .w) ≡ true
 word c = sym (c .before .is-word-size .ensures) ∙ not-false _ (c .if1 .left)

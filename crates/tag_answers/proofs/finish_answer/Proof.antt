@@ -1,14 +1,13 @@
--- `tag::finish_answer` meets its contract. Assumes nothing.
+-- `tag_answers::finish_answer` meets its contract. Assumes nothing.
 use mathlib.Core.Path.{_≡_, sym, _∙_}
 use mathlib.Core.Bool.{true}
 use borrow.Author.Needs.{needs}
 use borrow.Author.Tests.{lt-ltb, le-ltb, eq-eqb, ne-eqb, not-true, not-false}
 use Rattle.runs.specs.Limits.{limit}
 use Rattle.record.specs.Record.{sound}
-use Rattle.tag.specs.KeyAnswer.{isWholeBytes}
-use Rattle.tag.specs.Finish.{finishAnswer}
-use Rattle.tag.proofs.finish_answer.Statement.{statement}
-use Rattle.tag.proofs.finish_answer.Tie as tie
+use Rattle.tag_answers.specs.KeyAnswer.{isWholeBytes, finishAnswer}
+use Rattle.tag_answers.proofs.finish_answer.Statement.{statement}
+use Rattle.tag_answers.proofs.finish_answer.Tie as tie
 
 -- the record is sound
 taken : (c : tie.Else1) → sound (c .before .before .args .r) ≡ true

@@ -1,0 +1,2 @@
+-- What an answer says of the calls with a key.
+pub mod Accepted
