@@ -225,7 +225,7 @@ static void must_go_on_from_middle(lsh_record order)
         return;
     }
     lsh_record middle = record_at_checkpoint((checkpoints + 1) / 2);
-    /* What was appended before is not laid on the roll again, so this Append is one without it. */
+    /* These bytes have their checkpoints on the roll already, so this Append is one without the roll. */
     lsh_outcome outcome = lsh_append(middle, pictures.bytes + middle.total, order.total - middle.total);
     must_be_accepted(outcome.number, "lsh_append from the middle");
     must_give_same_receipt(outcome.next, order);

@@ -66,7 +66,7 @@ extern "C" {
 #define LSH_DIGEST_PLACE 4
 #define LSH_LENGTH_PLACE 68
 
-/* A checkpoint is laid at every block whose number is a multiple of this. */
+/* A checkpoint is inserted at every block whose number is a multiple of this. */
 #define LSH_CHECKPOINT_BLOCKS 64
 
 /* The most slots of a roll. Bytes of an index, of a slot and of a roll, the last two by word size. */
@@ -224,7 +224,7 @@ lsh_outcome lsh_abandon(lsh_record r);
  * from the head, or if the number of linked slots is not the record's whole blocks divided by LSH_CHECKPOINT_BLOCKS and rounded down. The
  * chains are not tested. */
 
-/* Adds a piece of any length to the end of an order with a roll, and lays the checkpoints due: one at each new whole block whose number,
+/* Adds a piece of any length to the end of an order with a roll, and inserts the checkpoints due: one at each new whole block whose number,
  * counted from 1, is a multiple of LSH_CHECKPOINT_BLOCKS. For each a slot that is not linked is taken, and which one is left open. The
  * slot's index becomes 0, the chain is written to the slot, and its number becomes the index of the slot that was linked last, or of the
  * head. No other byte of the roll is written.

@@ -39,12 +39,12 @@ int main()
         && abandoned.number == LSH_ACCEPTED && std::memcmp(&abandoned.next, &both.next, sizeof both.next) == 0
         && ended.number == LSH_ACCEPTED && ended.count == 0 && std::memcmp(&ended.next, &first.next, sizeof first.next) == 0;
 
-    // A piece of one checkpoint on a roll of one slot, and all of it handed back; and laid again, with only its last block handed back.
+    // A piece of one checkpoint on a roll of one slot, and all of it handed back; and appended again, with only its last block handed back.
     static const uint8_t piece[LSH_CHECKPOINT_BLOCKS * LSH_BLOCK_BYTES(32)] = {};
     uint8_t roll[LSH_ROLL_BYTES(32, 1)] = {};
-    const lsh_outcome laid = lsh_append_roll(opened.next, piece, sizeof piece, roll, sizeof roll);
-    good = good && laid.number == LSH_ACCEPTED && laid.count == LSH_CHECKPOINT_BLOCKS && roll[0] == 1 && roll[1] == 0;
-    const lsh_outcome back = lsh_rewind_roll(laid.next, 0, piece, sizeof piece, roll, sizeof roll);
+    const lsh_outcome appended = lsh_append_roll(opened.next, piece, sizeof piece, roll, sizeof roll);
+    good = good && appended.number == LSH_ACCEPTED && appended.count == LSH_CHECKPOINT_BLOCKS && roll[0] == 1 && roll[1] == 0;
+    const lsh_outcome back = lsh_rewind_roll(appended.next, 0, piece, sizeof piece, roll, sizeof roll);
     good = good && back.number == LSH_ACCEPTED && std::memcmp(&back.next, &opened.next, sizeof opened.next) == 0 && roll[0] == 0;
     const lsh_outcome again = lsh_append_roll(back.next, piece, sizeof piece, roll, sizeof roll);
     const lsh_outcome handed = lsh_hand_back(lsh_begin(again.next, piece, 0).next, piece, sizeof block);

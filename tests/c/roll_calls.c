@@ -238,7 +238,7 @@ static void try_numbers_of_links(uint64_t w)
 
 /* ---- what is tried: the order of the refusals ---- */
 
-/* Pieces of every kind on a record, with the roll as it is: short ones, one that lays a checkpoint, and those that are too long for any
+/* Pieces of every kind on a record, with the roll as it is: short ones, one that inserts a checkpoint, and those that are too long for any
  * roll, for the limit, or for both. */
 static void try_pieces(const lsh_record *r, size_t roll_len)
 {

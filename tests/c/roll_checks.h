@@ -43,9 +43,9 @@ static void check_appended(const lsh_record *r, const uint8_t *piece, size_t pie
     }
     static uint8_t right[LARGEST];
     memcpy(right, roll_before(), roll_len);
-    bool laid = lay_due(r, piece, piece_len, right, buffer(&roll), roll_len);
-    check(laid, "%s leaves a roll with other links", said);
-    if (laid) {
+    bool inserted = insert_due(r, piece, piece_len, right, buffer(&roll), roll_len);
+    check(inserted, "%s leaves a roll with other links", said);
+    if (inserted) {
         check_roll(right, roll_len, said);
     }
 }

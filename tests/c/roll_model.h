@@ -119,7 +119,7 @@ static lsh_outcome right_rewind_roll(const lsh_record *r, uint64_t keep, const u
 
 /* Makes the roll from before an accepted Append the right one for after it, where `after` is the one that the call left. Gives false if this
  * one has not first the old links and then as many other slots as there are checkpoints due. */
-static bool lay_due(const lsh_record *r, const uint8_t *piece, size_t piece_len, uint8_t *roll, const uint8_t *after, size_t roll_len)
+static bool insert_due(const lsh_record *r, const uint8_t *piece, size_t piece_len, uint8_t *roll, const uint8_t *after, size_t roll_len)
 {
     struct way old = walk(r->w, roll, roll_len), way = walk(r->w, after, roll_len);
     if (!way.is_roll || way.count != checkpoints(r->w, r->total + piece_len)

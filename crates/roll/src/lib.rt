@@ -78,7 +78,7 @@ pub fn checkpoints(w: u64, total: u64) -> u64
     total / runs::block_bytes(w) as u64 / SPACING
 }
 
-// Lays a checkpoint with the chain t in a slot that is not linked, behind the last link; its number is not written. Returns what is known of the roll then.
+// Inserts a checkpoint with the chain t in a slot that is not linked, behind the last link; its number is not written. Returns what is known of the roll then.
 pub fn insert(w: u64, y: Traversal, roll: &mut [u8], t: [u64; 16]) -> Traversal
     requires { ⌜ (isWordSize w ≡ true) × Chain (sizeOf w) t × (isRoll (sizeOf w) (now roll) ≡ true) × (y ≡ traversalOf (sizeOf w) (now roll)) × (y .count < y .slots) ⌝ }
     ensures { λ x. ⌜ ((k : ℕ) → now (roll .exit) ≡ inserted (sizeOf w) (record { number = k; chain = t }) (now (roll .entry))) × (x ≡ traversalOf (sizeOf w) (now (roll .exit))) ⌝ }

@@ -65,7 +65,7 @@ impl Calls {
         let outcome = compare::append_roll(*r, piece, lent.roll());
         assert_eq!(outcome, right);
         let after = match right.number {
-            ACCEPTED => roll::laid(r.w, roll, &roll::taken(r.w, roll, lent.roll()), &due),
+            ACCEPTED => roll::inserted(r.w, roll, &roll::taken(r.w, roll, lent.roll()), &due),
             _ => roll.to_vec(),
         };
         lent.assert_is(&after, "an Append");

@@ -68,7 +68,7 @@ fn lengths() {
 fn one_slot() {
     compare_text(
         "\
-# nothing is laid before the end of block 64
+# nothing is inserted before the end of block 64
 open 32 256
 roll 68
 appendroll [0..8164] => 0 63
@@ -115,7 +115,7 @@ fn two_slots() {
     let set = set(32, 224, 8114);
     compare_text(&format!(
         "\
-# two checkpoints laid by one call
+# two checkpoints inserted by one call
 {set}
 roll 134
 appendroll [8114..16387] => 0 65
@@ -124,7 +124,7 @@ showroll
 appendroll - => 0 0
 rewindroll 0 [16384..16387] => 0 0
 showroll
-# the second is unlinked, laid again and unlinked with the first. Only the index that led to the first slot unlinked is written
+# the second is unlinked, inserted again and unlinked with the first. Only the index that led to the first slot unlinked is written
 rewindroll 100 [16256..16384] => 0 1
 showroll
 appendroll [0..28] => 0 1
@@ -154,7 +154,7 @@ appendroll 87 => 0 1
 showroll
 rewindroll 0 [24448..24575]87 => 0 1
 showroll
-# one slot is left and two checkpoints are due: 16, and nothing is laid. Where one is due it is
+# one slot is left and two checkpoints are due: 16, and nothing is inserted. Where one is due it is
 {one_linked}
 rollset {one_roll}
 appendroll [0..8320] => 16 0

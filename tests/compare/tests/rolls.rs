@@ -42,7 +42,7 @@ fn most_slots<W: Word>() {
     list.finish();
 }
 
-/// A roll of two slots through an order that is cut and appended to many times: more checkpoints are laid than there are slots.
+/// A roll of two slots through an order that is cut and appended to many times: more checkpoints are inserted than there are slots.
 fn slots_that_serve_again<W: Word>() {
     let interval = List::<W>::INTERVAL;
     let mut random = Random::new(13 * W::BITS as u64);

@@ -262,7 +262,7 @@ fn with_a_roll() {
     let set = set_line(&sample_record(32, 256, 8191));
     compare_text(&format!(
         "\
-# block 64 ends and its checkpoint is laid; begin and hand-back leave the roll
+# block 64 ends and its checkpoint is inserted; begin and hand-back leave the roll
 {set}
 roll 68
 appendroll [8191..8242] => 0 1

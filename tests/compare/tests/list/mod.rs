@@ -234,7 +234,7 @@ impl<'a, W: Word> List<'a, W> {
         if self.checkpoints() < had {
             roll::unlinked(Self::W, before, self.checkpoints())
         } else {
-            roll::laid(Self::W, before, &roll::taken(Self::W, before, after), &self.checkpoints_after(had))
+            roll::inserted(Self::W, before, &roll::taken(Self::W, before, after), &self.checkpoints_after(had))
         }
     }
 

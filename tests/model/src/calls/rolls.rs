@@ -8,7 +8,7 @@ use crate::split::ended;
 use crate::{needs, Answer};
 use std::collections::HashSet;
 
-/// A checkpoint is laid at every block whose number is a multiple of this.
+/// A checkpoint is inserted at every block whose number is a multiple of this.
 pub const CHECKPOINT_BLOCKS: usize = 64;
 
 /// The most slots of a roll.
@@ -111,8 +111,8 @@ fn leading_to(links: &[usize], place: usize) -> usize {
     }
 }
 
-/// The roll after these chains are laid, in these slots, which are different ones that were not linked.
-pub fn laid(w: u64, before: &[u8], slots: &[usize], due: &[Vec<u8>]) -> Vec<u8> {
+/// The roll after these chains are inserted, in these slots, which are different ones that were not linked.
+pub fn inserted(w: u64, before: &[u8], slots: &[usize], due: &[Vec<u8>]) -> Vec<u8> {
     let mut links = links(w, before).expect("a roll before the call");
     assert_eq!(slots.len(), due.len(), "slots taken");
     let mut roll = before.to_vec();
@@ -152,7 +152,7 @@ pub fn unlinked(w: u64, before: &[u8], remaining: usize) -> Vec<u8> {
 
 // ---- the calls ----
 
-/// The outcome of an Append, and the chains of the checkpoints that it lays.
+/// The outcome of an Append, and the chains of the checkpoints that it inserts.
 pub fn append_roll(r: &Record, piece: &[u8], roll: &[u8]) -> (Outcome, Chains) {
     match appended_roll(r, piece, roll) {
         Ok((next, due)) => (Outcome { number: 0, count: next.whole_blocks() - r.whole_blocks(), next }, due),
@@ -225,7 +225,7 @@ fn append_roll_line(program: &mut Program, words: &mut Words) -> Option<String> 
     let (outcome, due) = append_roll(&program.record, &words.bytes()?, &program.roll);
     if !due.is_empty() {
         let slots: Vec<usize> = lowest(outcome.next.w, &program.roll).take(due.len()).collect();
-        program.roll = laid(outcome.next.w, &program.roll, &slots, &due);
+        program.roll = inserted(outcome.next.w, &program.roll, &slots, &due);
     }
     Some(program.keep(outcome))
 }
