@@ -1,1 +1,2 @@
-// No code: specs/ says what a call leaves in the output that it is lent, proofs/ has its laws, and what an accepted call says of its tests.
+// No code: specs/ says which of two answers a call gives and what it leaves in the output that it is lent, proofs/ has their laws, and what an accepted call
+// says of its tests.

@@ -23,7 +23,7 @@ lentBytes = stringBytes + rollBytes
 abbrev pub mostNumbers : ℕ
 mostNumbers = 5
 
--- ROOM: the bytes of the line buffer. What a line prints stands behind the line's name: its numbers, and then the digits of two parts of BYTES bytes
--- at most, or two chains, the places for the bytes of two blocks and two numbers
+-- ROOM: the bytes of the line buffer. What a line prints stands behind the line's name: its numbers, and then the digits of BYTES bytes at
+-- most, or two chains, the places for the bytes of two blocks and two numbers
 abbrev pub roomBytes : ℕ
-roomBytes = 3 * lineBytes + 1024
+roomBytes = 2 * lineBytes + 1024

@@ -30,7 +30,7 @@ const ROLL: usize = 65536;
 const LENT_BYTES: usize = BYTES + ROLL;
 
 // Room for a line, and behind its name for what it prints.
-const ROOM: usize = 3 * LINE + 1024;
+const ROOM: usize = 2 * LINE + 1024;
 
 // What calls are made on, kept from line to line.
 struct State {

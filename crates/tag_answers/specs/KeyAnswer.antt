@@ -34,8 +34,8 @@ roomAnswer n size = cond (ltb size (tagBytes n)) 12 0
 unfoldable pub tagAnswer : ℕ → ℕ → ℕ → ℕ → ℕ → ℕ
 tagAnswer w n keyLength len size = first (keyAnswer w n keyLength len) (roomAnswer n size)
 
--- of a finish, by the record, the length of the key and the size of the output: 3 if the record is not sound, then 18 if its n is no multiple of 8, then 5 if the
--- key is above the limit, then 12
+-- of a finish, by the record, the length of the key and the size of the output: 3 if the record is not sound, then 18 if its n is no multiple of 8, then
+-- 5 if the key is above the limit, then 12
 unfoldable pub finishAnswer : Record → ℕ → ℕ → ℕ
 finishAnswer r keyLength size =
     cond (not (sound r)) 3

@@ -1,6 +1,6 @@
--- The plain tape: the bytes of an order of word size w, and how far a split rewind is. It is fed the arguments of the calls and nothing else: of an Append
--- the piece, of the others keep and the length of the bytes handed back. Its refusals are by lengths, by how far a split rewind is, and with a roll by
--- the number of its slots.
+-- The plain tape of documents 01 and 02: the bytes of an order of word size w, and how far a split rewind is. It is fed the arguments of the calls and
+-- nothing else: of an Append the piece, of the others keep and the length of the bytes handed back. Its refusals are by lengths, by how far a split rewind
+-- is, and with a roll by the number of its slots.
 -- Assumes nothing.
 use mathlib.Core.Bool.{Bool, true, false, not, cond, _||_}
 use mathlib.Core.List.{List, _++_}

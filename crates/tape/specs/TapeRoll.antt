@@ -24,7 +24,7 @@ pub record TapeRoll (w n k : ℕ) (s roll : List ℕ) : Type 0 where
   pub isOf : isRollOf (recordOf w n s) roll ≡ true
   pub shows : shown (sizeOf w) roll ≡ tapeCheckpoints w n s
 
--- the bytes of an order's roll, by what it is lent: none, or a roll that shows the tape's chains
+-- the bytes of an order's roll, by what it is lent: none, or a roll that shows the tape's checkpoints
 abbrev pub RollShows : Lent → ℕ → ℕ → List ℕ → List ℕ → Type 0
 RollShows NoRoll w n s roll = roll ≡ []
 RollShows (WithRoll size) w n s roll = TapeRoll w n (size .slots) s roll
