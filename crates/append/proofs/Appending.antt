@@ -14,17 +14,17 @@ use Rattle.lsh.specs.Padding.{blocksOf, restOf}
 use Rattle.lsh.proofs.Figures.{block-some}
 use Rattle.lsh.proofs.Padding.{blocks-short, rest-short}
 use Rattle.lsh.proofs.Splitting.{forwards-split, rest-split}
-use Rattle.runs.specs.Limits.{longestBlock}
-use Rattle.runs.proofs.Limits.{block-most}
-use Rattle.buffers.proofs.Zeros.{drop-replicate}
-use Rattle.record.specs.declared.Record.{Record}
-use Rattle.record.specs.declared.Outcome.{Outcome}
-use Rattle.record.specs.Record.{heldOf, heldLength, sound, heldBytes}
-use Rattle.buffers.proofs.Lists.{zero-all}
-use Rattle.record.proofs.Sound.{sounds}
-use Rattle.record.proofs.Held.{fill-lt, held-length}
-use Rattle.append.specs.Append.{appended, appendAccepted}
-use Rattle.append.proofs.Held.{total-is}
+use Rattle.limits.specs.Limits.{longestBlock}
+use Rattle.limits.proofs.Limits.{block-most}
+use Rattle.lists.proofs.Zeros.{drop-replicate}
+use Rattle.orders.specs.declared.Record.{Record}
+use Rattle.orders.specs.declared.Outcome.{Outcome}
+use Rattle.orders.specs.Record.{heldOf, heldLength, sound, heldBytes}
+use Rattle.lists.proofs.Lists.{zero-all}
+use Rattle.orders.proofs.Sound.{sounds}
+use Rattle.orders.proofs.Held.{fill-lt, held-length}
+use Rattle.orders.specs.Append.{appended, appendAccepted}
+use Rattle.orders.proofs.AfterPiece.{total-is}
 
 -- the answer to an accepted call
 abbrev answered : Record → ℕ → ℕ → List ℕ → List ℕ → Outcome

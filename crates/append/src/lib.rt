@@ -6,12 +6,12 @@ ghost use lib.ListN.{length};
 ghost use Rattle.lsh.specs.WordSize.{isWordSize, sizeOf, blockBytes};
 ghost use Rattle.lsh.specs.Block.{Chain, forwards};
 ghost use Rattle.lsh.specs.Padding.{blocksOf, restOf};
-ghost use Rattle.runs.specs.Limits.{limit};
-ghost use Rattle.record.specs.Record.{heldOf, heldLength, sound};
-ghost use Rattle.append.specs.Append.{appendAccepted, appendCall};
-use record::Outcome;
-use record::Record;
-use runs::LONGEST_BLOCK;
+ghost use Rattle.limits.specs.Limits.{limit};
+ghost use Rattle.orders.specs.Record.{heldOf, heldLength, sound};
+ghost use Rattle.orders.specs.Append.{appendAccepted, appendCall};
+use limits::LONGEST_BLOCK;
+use orders::Outcome;
+use orders::Record;
 
 // A chain after whole blocks, how many there were, and the held bytes after them.
 struct Absorbed {
@@ -29,7 +29,7 @@ pub fn append(r: Record, piece: &[u8]) -> Outcome
         return record::refused(a, r);
     }
     let total = r.total;
-    if runs::LIMIT as u64 - total < piece.len() as u64 {
+    if limits::LIMIT as u64 - total < piece.len() as u64 {
         return record::refused(5, r);
     }
     accepted(r, piece)

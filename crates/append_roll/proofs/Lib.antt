@@ -1,5 +1,2 @@
--- Laws of Append with a roll.
-pub mod Answers
+-- Laws of Append with a roll, made in parts.
 pub mod Parts
-pub mod Shows
-pub mod Empty

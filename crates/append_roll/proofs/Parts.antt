@@ -16,15 +16,15 @@ use Rattle.lsh.proofs.Figures.{block-some}
 use Rattle.lsh.proofs.Bytes.{octets}
 use Rattle.lsh.proofs.Padding.{length-rest, rest-none}
 use Rattle.lsh.proofs.Chains.{after-all, after-front}
-use Rattle.runs.specs.Limits.{longestBlock}
-use Rattle.record.specs.declared.Record.{Record}
-use Rattle.record.specs.declared.Outcome.{Outcome}
-use Rattle.record.specs.Record.{heldOf, heldBytes, sound}
-use Rattle.record.proofs.Sound.{sounds}
-use Rattle.append.specs.Append.{appended, appendAccepted}
-use Rattle.append.proofs.Held.{total-is, rest-length, held-after}
-use Rattle.append.proofs.Joins.{append-joins}
-use Rattle.append.proofs.Sound.{appended-chain, appended-sound}
+use Rattle.limits.specs.Limits.{longestBlock}
+use Rattle.orders.specs.declared.Record.{Record}
+use Rattle.orders.specs.declared.Outcome.{Outcome}
+use Rattle.orders.specs.Record.{heldOf, heldBytes, sound}
+use Rattle.orders.proofs.Sound.{sounds}
+use Rattle.orders.specs.Append.{appended, appendAccepted}
+use Rattle.orders.proofs.AfterPiece.{total-is, rest-length, held-after}
+use Rattle.orders.proofs.Joins.{append-joins}
+use Rattle.orders.proofs.AppendedSound.{appended-chain, appended-sound}
 use Rattle.roll.specs.declared.Traversal.{Traversal}
 use Rattle.checkpoints.specs.Slots.{slotCount}
 use Rattle.checkpoints.specs.Due.{checkpointsAt, spacing, dueNumbers}
@@ -35,8 +35,9 @@ use Rattle.checkpoints.proofs.Due.{due-next, due-none}
 use Rattle.checkpoints.proofs.Spacing.{step, at-checkpoint, blocks-at, unreached, no-fewer-blocks, no-fewer}
 use Rattle.checkpoints.proofs.Form.{roll-of}
 use Rattle.checkpoints.proofs.Shown.{inserted-size, inserted-links, inserted-roll}
-use Rattle.append_roll.specs.AppendRoll.{due, chainAt}
-use Rattle.append_roll.proofs.Answers.{Accepted, goal-of}
+use Rattle.checkpoints.specs.AppendRoll.{due, chainAt}
+use Rattle.checkpoints.proofs.ChainAt.{chain-front}
+use Rattle.checkpoints.proofs.AppendAnswers.{Accepted, goal-of}
 
 module _ (r : Record) (piece : List ℕ) where
   abbrev Z : WordSize
@@ -91,20 +92,9 @@ module _ (r : Record) (piece : List ℕ) where
     pub place : r .total + at ≡ have at * Q
 
   module _ {roll : List ℕ} (e : Entry roll) where
-    -- the chain after the first bytes of a piece is that of the order's whole blocks there
-    chain-front : (p q : List ℕ) → appended r p .chain ≡ chainAt r (p ++ q) ((r .total + length p) / B)
-    unfolding appended chainAt
-    chain-front p q =
-        let whole : List ℕ = heldBytes r ++ p in
-        let n : length whole / B ≡ (r .total + length p) / B - r .total / B =
-        omega (arith, ap (λ (k : ℕ). k / B) (total-is r (e .long) p) ∙ mul-add-div-right (block-some (r .w)) (r .total / B) (length whole)) in
-        let few : length whole / B * B ≤ length whole = omega (arith, div-add-mod' (length whole) B) in
-        sym (after-front Z (r .chain) whole q (length whole / B) few ∙ after-all Z (r .chain) whole)
-        ∙ ap₂ (chainAfter Z (r .chain)) (append-assoc (heldBytes r) p q) n
-
     chain-there : (at : ℕ) → at ≤ length piece → so-far at .chain ≡ chainAt r piece (blocks-after at)
     chain-there at le =
-        chain-front (take at piece) (drop at piece)
+        chain-front r (e .long) (take at piece) (drop at piece)
         ∙ ap₂ (chainAt r) (take-append-drop at piece) (ap (λ (n : ℕ). (r .total + n) / B) (length-take-le at piece le))
 
     -- at a checkpoint no byte is held

@@ -7,19 +7,19 @@ ghost use lib.ListN.{length};
 ghost use Rattle.lsh.specs.WordSize.{isWordSize, sizeOf, blockBytes};
 ghost use Rattle.lsh.specs.Block.{Chain, forwards};
 ghost use Rattle.lsh.specs.Padding.{blocksOf};
-ghost use Rattle.runs.specs.Limits.{limit};
-ghost use Rattle.record.specs.declared.Record.{Record};
-ghost use Rattle.record.specs.Record.{heldOf, sound};
-ghost use Rattle.append.specs.Append.{appended, appendAccepted};
+ghost use Rattle.limits.specs.Limits.{limit};
+ghost use Rattle.orders.specs.declared.Record.{Record};
+ghost use Rattle.orders.specs.Record.{heldOf, sound};
+ghost use Rattle.orders.specs.Append.{appended, appendAccepted};
 ghost use Rattle.checkpoints.specs.Due.{spacing};
 ghost use Rattle.checkpoints.specs.Slots.{slotCount};
 ghost use Rattle.checkpoints.specs.Roll.{links, isRoll, checkpoints};
 ghost use Rattle.checkpoints.specs.FreeSlot.{freeSlot, FreeChoice};
 ghost use Rattle.checkpoints.specs.Checkpoints.{inserted};
 ghost use Rattle.roll.specs.Traversal.{traversalOf};
-ghost use Rattle.append_roll.specs.AppendRoll.{appendRollAnswer, appendRollCall, appendedRoll};
-use record::Outcome;
-use record::Record;
+ghost use Rattle.checkpoints.specs.AppendRoll.{appendRollAnswer, appendRollCall, appendedRoll};
+use orders::Outcome;
+use orders::Record;
 use roll::SPACING;
 use roll::Traversal;
 
@@ -51,7 +51,7 @@ fn answer(r: Record, size: usize, y: Traversal) -> u32
         return a;
     }
     let total = r.total;
-    if runs::LIMIT as u64 - total < size as u64 {
+    if limits::LIMIT as u64 - total < size as u64 {
         return 5;
     }
     // The links are the record's checkpoints, so with those due they are the checkpoints of the order with the piece.

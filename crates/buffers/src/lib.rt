@@ -4,8 +4,8 @@ ghost use mathlib.Core.Path.{_≡_};
 ghost use Prim.Native.Nat.{_+_, _≤_};
 ghost use lib.ListN.{length, drop, replicate};
 ghost use lib.Seq.{sets};
-ghost use Rattle.buffers.specs.Equal.{equal};
-ghost use Rattle.buffers.specs.Lists.{allZero};
+ghost use Rattle.lists.specs.Equal.{equal};
+ghost use Rattle.lists.specs.Lists.{allZero};
 
 // Writes one byte into every place of the output.
 pub fn fill(output: &mut [u8], x: u8)

@@ -13,7 +13,7 @@ use Rattle.lsh.specs.WordSize.{WordSize, sizeOf}
 use Rattle.lsh.specs.Bytes.{wordAt}
 use Rattle.lsh.proofs.Tests.{and-true}
 use Rattle.lsh.proofs.Opening.{at-zeros}
-use Rattle.record.specs.declared.Record.{Record}
+use Rattle.orders.specs.declared.Record.{Record}
 use Rattle.checkpoints.specs.Slots.{indexBytes, mostSlots, slotBytes, rollBytes, slotCount, isRollLength, indexPlace}
 use Rattle.checkpoints.specs.Members.{member, repeats, allUpTo}
 use Rattle.checkpoints.specs.Roll.{newRoll, nextIndex, links, checkpointsIn, shown, isRoll, checkpoints, isRollOf}

@@ -8,11 +8,11 @@ use borrow.Author.Tests.{not-false, eq-eqb, ne-eqb}
 use Rattle.answers.specs.First.{first}
 use Rattle.answers.proofs.Tests.{test, passed}
 use Rattle.answers.proofs.First.{both-passed}
-use Rattle.record.specs.declared.Record.{Record}
-use Rattle.record.specs.declared.Outcome.{Outcome}
-use Rattle.record.specs.Record.{sound, refused}
-use Rattle.record.specs.Turn.{turnAnswer, answered}
-use Rattle.record.proofs.InTurn.{answered-refused, answered-rest, turn-passed}
+use Rattle.orders.specs.declared.Record.{Record}
+use Rattle.orders.specs.declared.Outcome.{Outcome}
+use Rattle.orders.specs.Record.{sound, refused}
+use Rattle.orders.specs.Turn.{turnAnswer, answered}
+use Rattle.orders.proofs.InTurn.{answered-refused, answered-rest, turn-passed}
 use Rattle.checkpoints.specs.Roll.{isRollOf, rollAnswer}
 use Rattle.checkpoints.specs.Checkpoints.{ifAccepted}
 

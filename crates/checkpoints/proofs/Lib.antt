@@ -1,4 +1,4 @@
--- Laws of rolls.
+-- Laws of rolls, and of the calls with a roll.
 pub mod Due
 pub mod Members
 pub mod Traversals
@@ -8,3 +8,8 @@ pub mod Form
 pub mod Shown
 pub mod Spacing
 pub mod InTurn
+pub mod AppendAnswers
+pub mod ChainAt
+pub mod AppendShows
+pub mod Empty
+pub mod Rewinding

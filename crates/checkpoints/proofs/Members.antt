@@ -13,9 +13,9 @@ use lib.ListN.{length, take}
 use borrow.Author.Tests.{eqb-true, eq-eqb, leb-true, le-leb}
 use Rattle.lsh.specs.Tabulate.{at}
 use Rattle.lsh.proofs.Tests.{and-true, is-false}
-use Rattle.elements.proofs.Counting.{IsEquivalence}
-use Rattle.elements.proofs.Repeats.{one-there, one-cases, repeats-there}
-use Rattle.elements.proofs.Different.{not-longer}
+use Rattle.lists.proofs.Counting.{IsEquivalence}
+use Rattle.lists.proofs.Repeats.{one-there, one-cases, repeats-there}
+use Rattle.lists.proofs.Different.{not-longer}
 use Rattle.checkpoints.specs.Members.{member, repeats, allUpTo}
 use Rattle.checkpoints.specs.FreeSlot.{firstFree, freeSlot, FreeChoice}
 

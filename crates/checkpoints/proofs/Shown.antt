@@ -17,7 +17,7 @@ use Rattle.lsh.specs.WordSize.{WordSize}
 use Rattle.lsh.specs.Block.{Chain}
 use Rattle.lsh.proofs.Tests.{or-false, is-false}
 use Rattle.lsh.proofs.Bytes.{Octets}
-use Rattle.elements.proofs.Repeats.{one-there, one-take, one-snoc, repeats-take, repeats-snoc}
+use Rattle.lists.proofs.Repeats.{one-there, one-take, one-snoc, repeats-take, repeats-snoc}
 use Rattle.checkpoints.specs.Due.{Checkpoint, checkpointsAt, numbersOf, spacing, multiplesAfter}
 use Rattle.checkpoints.specs.Slots.{slotCount, isRollLength, slotAt}
 use Rattle.checkpoints.specs.Members.{member, repeats}

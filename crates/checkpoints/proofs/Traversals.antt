@@ -11,7 +11,7 @@ use lib.Dec.{eqb}
 use lib.ListN.{length, take}
 use borrow.Author.Tests.{eq-eqb, ne-eqb}
 use Rattle.lsh.specs.Tabulate.{at}
-use Rattle.elements.proofs.Repeats.{one-there, repeats-parts}
+use Rattle.lists.proofs.Repeats.{one-there, repeats-parts}
 use Rattle.checkpoints.specs.Members.{member, repeats}
 use Rattle.checkpoints.specs.Roll.{visited}
 use Rattle.checkpoints.proofs.Members.{member-here, member-cases, member-at, apart}

@@ -9,7 +9,7 @@ use lib.Seq.{sets}
 use Rattle.lsh.specs.Tabulate.{at, tabulate}
 use Rattle.lsh.specs.WordSize.{WordSize}
 use Rattle.lsh.specs.Bytes.{byteAt, bytesOf}
-use Rattle.record.specs.declared.Outcome.{Outcome}
+use Rattle.orders.specs.declared.Outcome.{Outcome}
 use Rattle.checkpoints.specs.Due.{Checkpoint, numbersOf, upTo}
 use Rattle.checkpoints.specs.Slots.{indexBytes, slotCount, indexPlace, chainPlace}
 use Rattle.checkpoints.specs.Roll.{links, shown}

@@ -4,7 +4,7 @@ use mathlib.Core.Bool.{Bool, true, _&&_}
 use mathlib.Core.List.{List, [], _∷_}
 use Prim.Native.Nat.{ℕ}
 use lib.Dec.{eqb, leb}
-use Rattle.elements.specs.Elements.{isOneOf, hasRepeats}
+use Rattle.lists.specs.Elements.{isOneOf, hasRepeats}
 
 -- x stands in the list
 abbrev pub member : ℕ → List ℕ → Bool

@@ -8,8 +8,8 @@ use lib.ListN.{length, drop, replicate}
 use Rattle.lsh.specs.WordSize.{WordSize, sizeOf, blockBytes}
 use Rattle.lsh.specs.Bytes.{wordAt, wordsOf}
 use Rattle.answers.specs.First.{first}
-use Rattle.record.specs.declared.Record.{Record}
-use Rattle.record.specs.Turn.{turnAnswer}
+use Rattle.orders.specs.declared.Record.{Record}
+use Rattle.orders.specs.Turn.{turnAnswer}
 use Rattle.checkpoints.specs.Due.{Checkpoint, spacing}
 use Rattle.checkpoints.specs.Slots.{indexBytes, rollBytes, slotCount, isRollLength, indexPlace, chainPlace}
 use Rattle.checkpoints.specs.Members.{repeats, allUpTo}

@@ -13,11 +13,11 @@ use Rattle.lsh.specs.Hash.{digest}
 use Rattle.lsh.specs.ByteString.{Bytes}
 use Rattle.lsh.proofs.Figures.{block-some}
 use Rattle.message.proofs.Padded.{padded-bytes}
-use Rattle.runs.specs.Limits.{longestBlock}
-use Rattle.record.specs.declared.Record.{Record}
-use Rattle.record.specs.Record.{heldBytes}
-use Rattle.finalization.specs.Ending.{messageBits}
-use Rattle.close.specs.Close.{closedDigest}
+use Rattle.limits.specs.Limits.{longestBlock}
+use Rattle.orders.specs.declared.Record.{Record}
+use Rattle.orders.specs.Record.{heldBytes}
+use Rattle.receipts.specs.Ending.{messageBits}
+use Rattle.receipts.specs.Close.{closedDigest}
 use Rattle.close.proofs.HeldBytes.{held-bytes, held-short}
 
 pub closed-is : (r : Record) (last e : ℕ) → length (r .held) ≡ longestBlock → Bytes (r .held) → last < 256 → e ≤ 7 → last % 2 ^ (8 - e) ≡ 0

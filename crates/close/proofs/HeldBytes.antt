@@ -9,11 +9,11 @@ use Rattle.lsh.specs.WordSize.{sizeOf, blockBytes}
 use Rattle.lsh.specs.Block.{Chain}
 use Rattle.lsh.specs.ByteString.{Bytes}
 use Rattle.lsh.proofs.Bytes.{bytes-take}
-use Rattle.runs.specs.Limits.{longestBlock}
-use Rattle.record.specs.declared.Record.{Record}
-use Rattle.record.specs.Record.{heldLength, sound, heldBytes}
-use Rattle.record.proofs.Sound.{sounds, chain-is}
-use Rattle.record.proofs.Held.{fill-lt, held-length}
+use Rattle.limits.specs.Limits.{longestBlock}
+use Rattle.orders.specs.declared.Record.{Record}
+use Rattle.orders.specs.Record.{heldLength, sound, heldBytes}
+use Rattle.orders.proofs.Sound.{sounds, chain-is}
+use Rattle.orders.proofs.Held.{fill-lt, held-length}
 
 module _ (r : Record) where
   pub held-bytes : Bytes (r .held) → Bytes (heldBytes r)

@@ -1,4 +1,3 @@
 -- Laws of Close.
 pub mod HeldBytes
 pub mod Closed
-pub mod Answers

@@ -7,10 +7,10 @@ use native.Mathlib.Omega.{arith}
 use lib.ListN.{length, take, set, replicate, length-replicate, length-append}
 use lib.Seq.{set-append-seam, take-append-add}
 use Rattle.lsh.specs.WordSize.{sizeOf, blockBytes}
-use Rattle.runs.specs.Limits.{longestBlock}
-use Rattle.runs.proofs.Limits.{block-most}
-use Rattle.buffers.specs.ZeroFilled.{zeroFilled}
-use Rattle.buffers.proofs.Zeros.{take-replicate}
+use Rattle.limits.specs.Limits.{longestBlock}
+use Rattle.limits.proofs.Limits.{block-most}
+use Rattle.lists.specs.ZeroFilled.{zeroFilled}
+use Rattle.lists.proofs.Zeros.{take-replicate}
 
 pub stored-block : (s : List ℕ) (p : ℕ) {b : List ℕ} → length s < longestBlock → b ≡ zeroFilled longestBlock s
     → set b (length s) p ≡ s ++ p ∷ replicate (longestBlock - 1 - length s) 0

@@ -11,10 +11,10 @@ ghost use Rattle.lsh.specs.Block.{Chain, forwards};
 ghost use Rattle.lsh.specs.Bits.{bytesOfBits};
 ghost use Rattle.lsh.specs.Padding.{blocksOf};
 ghost use Rattle.lsh.specs.Hash.{finalBytes, digest};
-ghost use Rattle.runs.specs.Limits.{longestBlock, longestDigest};
-ghost use Rattle.finalization.specs.Receipt.{receiptBytes, receipt};
-ghost use Rattle.finalization.specs.Ending.{endAnswer};
-use runs::LONGEST_BLOCK;
+ghost use Rattle.limits.specs.Limits.{longestBlock, longestDigest};
+ghost use Rattle.receipts.specs.Receipt.{receiptBytes, receipt};
+ghost use Rattle.receipts.specs.Ending.{endAnswer};
+use limits::LONGEST_BLOCK;
 
 // Bytes of a receipt.
 pub const RECEIPT: usize = 76;
@@ -26,7 +26,7 @@ pub const DIGEST: usize = 4;
 pub const LENGTH: usize = 68;
 
 // The most bits of a message.
-pub const MOST_BITS: u64 = 8 * runs::LIMIT as u64 + 7;
+pub const MOST_BITS: u64 = 8 * limits::LIMIT as u64 + 7;
 
 // What padding puts after whole bytes: the bit 1, and zeros to the end of its byte.
 pub const PAD: u8 = 0x80;

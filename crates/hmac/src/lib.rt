@@ -11,9 +11,9 @@ ghost use Rattle.lsh.specs.Opening.{opening};
 ghost use Rattle.lsh.specs.Bits.{bytesOfBits};
 ghost use Rattle.lsh.specs.Padding.{blocksOf};
 ghost use Rattle.lsh.specs.Hash.{digest};
-ghost use Rattle.runs.specs.Limits.{isDigestLength};
-ghost use Rattle.hmac.specs.Hmac.{hashBytes, keyBlock, xorEach, tagOf, hmac};
-use runs::LONGEST_BLOCK;
+ghost use Rattle.limits.specs.Limits.{isDigestLength};
+ghost use Rattle.tags.specs.Hmac.{hashBytes, keyBlock, xorEach, tagOf, hmac};
+use limits::LONGEST_BLOCK;
 
 // The byte that the inner block of a key is taken with, and that of the outer block.
 pub const INNER: u8 = 0x36;

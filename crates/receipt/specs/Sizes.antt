@@ -1,9 +1,9 @@
 -- The sizes of the program's buffers, and what they are made of.
 -- Assumes nothing.
 use Prim.Native.Nat.{ℕ, _+_, _*_}
-use Rattle.finalization.specs.Receipt.{receiptBytes}
+use Rattle.receipts.specs.Receipt.{receiptBytes}
 use Rattle.decimal.specs.Number.{mostDigits}
-use Rattle.tally.specs.Tally.{mostReceipts}
+use Rattle.receipts.specs.Tally.{mostReceipts}
 
 -- the most receipts that a tally takes, end to end
 unfoldable pub listBytes : ℕ

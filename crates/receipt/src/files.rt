@@ -11,7 +11,7 @@ use crate::options::Asked;
 use crate::reading;
 use finalization::RECEIPT;
 use libc::STDERR_FILENO;
-use record::Record;
+use orders::Record;
 
 // Prints the receipts, and their tally if it is asked for. With a key, which is not empty, it prints the tags.
 pub fn print(a: Asked, key: &[u8]) {

@@ -2,7 +2,7 @@
 ghost use mathlib.Core.Path.{_≡_};
 ghost use Prim.Native.Nat.{_+_, _-_, _*_, _≤_};
 ghost use lib.ListN.{length};
-ghost use Rattle.finalization.specs.Receipt.{receiptBytes, digestPlace, lengthPlace};
+ghost use Rattle.receipts.specs.Receipt.{receiptBytes, digestPlace, lengthPlace};
 ghost use Rattle.decimal.specs.Number.{mostDigits};
 ghost use Rattle.receipt.specs.Sizes.{nameBytes, lineBytes};
 use decimal::DIGITS;

@@ -1,7 +1,7 @@
 // Files read in chunks, and what they hold appended to a record.
 use crate::messages;
 use libc::STDIN_FILENO;
-use record::Record;
+use orders::Record;
 
 // The record of a file's bytes, if they could be read.
 pub struct Reading {

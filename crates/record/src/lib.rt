@@ -4,43 +4,16 @@ ghost use mathlib.Core.Bool.{true};
 ghost use Prim.Native.Nat.{_+_, _^_};
 ghost use lib.ListN.{length};
 ghost use Rattle.lsh.specs.WordSize.{isWordSize};
-ghost use Rattle.runs.specs.Limits.{isDigestLength};
-ghost use Rattle.buffers.specs.Lists.{allBelow, allZero};
-ghost use Rattle.record.specs.Split.{notBegun, noneBegun, oneBegun, splitSound};
-ghost use Rattle.record.specs.Record.{heldLength, sound, zeros, isBegun, stepped, refused};
-ghost use Rattle.record.specs.Open.{opened, openCall};
-ghost use Rattle.record.specs.Turn.{turnAnswer};
-use runs::LONGEST_BLOCK;
-
-// What is kept of an order between calls: the word size, the digest length in bits, how many bytes there were, the chain after
-// their whole blocks, the bytes held since, and how far a split rewind is. C has it by value, as lsh_record.
-#[repr(C)]
-pub struct Record {
-    pub w: u64,
-    pub n: u64,
-    pub total: u64,
-    pub chain: [u64; 16],
-    pub held: [u8; LONGEST_BLOCK],
-    pub split: Split,
-}
-
-// A split rewind: the mark, 0 or 1 once begun, the second chain, which is run back so far, the bytes handed back last, and the number of
-// blocks handed back. C has these as the last fields of lsh_record.
-#[repr(C)]
-pub struct Split {
-    pub mark: u64,
-    pub second: [u64; 16],
-    pub back: [u8; LONGEST_BLOCK],
-    pub blocks: u64,
-}
-
-// The answer to a call: its number, how many blocks were run, and the record that follows. C has it as lsh_outcome.
-#[repr(C)]
-pub struct Outcome {
-    pub number: u32,
-    pub count: u64,
-    pub next: Record,
-}
+ghost use Rattle.limits.specs.Limits.{isDigestLength};
+ghost use Rattle.lists.specs.Lists.{allBelow, allZero};
+ghost use Rattle.orders.specs.Split.{notBegun, noneBegun, oneBegun, splitSound};
+ghost use Rattle.orders.specs.Record.{heldLength, sound, zeros, isBegun, stepped, refused};
+ghost use Rattle.orders.specs.Open.{opened, openCall};
+ghost use Rattle.orders.specs.Turn.{turnAnswer};
+use limits::LONGEST_BLOCK;
+use orders::Outcome;
+use orders::Record;
+use orders::Split;
 
 // The record of a new order.
 pub fn open(w: u64, n: u64) -> Outcome
@@ -158,7 +131,7 @@ pub fn is_sound(r: Record) -> bool
     if !runs::is_digest_length(w, n) {
         return false;
     }
-    if (runs::LIMIT as u64) < total {
+    if (limits::LIMIT as u64) < total {
         return false;
     }
     let at = held_length(w, total);

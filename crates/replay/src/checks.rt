@@ -4,7 +4,7 @@ use crate::reply;
 use crate::reply::Reply;
 use crate::words;
 use crate::words::WORDS;
-use same::Sameness;
+use receipts::Sameness;
 
 // The first digit of the kinds of these lines in the table of calls.rt, and the kinds.
 pub const FILE: u64 = 4;

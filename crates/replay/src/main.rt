@@ -14,7 +14,7 @@ ghost use Prim.Native.Nat.{_≤_};
 ghost use lib.ListN.{length};
 ghost use Rattle.replay.specs.Sizes.{stringBytes, lentBytes, roomBytes};
 use input::Place;
-use record::Record;
+use orders::Record;
 
 // The most bytes of a line, without its newline.
 const LINE: usize = 262144;

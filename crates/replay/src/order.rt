@@ -4,8 +4,8 @@ use crate::reply;
 use crate::reply::Reply;
 use crate::words;
 use crate::words::WORDS;
-use record::Outcome;
-use record::Record;
+use orders::Outcome;
+use orders::Record;
 
 // The first digit of the kinds of these lines in the table of calls.rt, and the kinds.
 pub const FILE: u64 = 1;

@@ -4,7 +4,7 @@ use crate::reply;
 use crate::reply::Reply;
 use crate::words;
 use crate::words::WORDS;
-use record::Record;
+use orders::Record;
 
 // The first digit of the kinds of these lines in the table of calls.rt, and the kinds.
 pub const FILE: u64 = 2;

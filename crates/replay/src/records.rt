@@ -4,9 +4,9 @@ use crate::reply;
 use crate::reply::Reply;
 use crate::words;
 use crate::words::WORDS;
-use record::Record;
-use record::Split;
-use runs::LONGEST_BLOCK;
+use limits::LONGEST_BLOCK;
+use orders::Record;
+use orders::Split;
 use script::WIDE_CHAIN;
 
 // The first digit of the kinds of these lines in the table of calls.rt, and the kinds.

@@ -1,7 +1,7 @@
 // What a line prints.
 ghost use Prim.Native.Nat.{_+_, _*_, _<_, _≤_};
 ghost use lib.ListN.{length};
-ghost use Rattle.runs.specs.Limits.{longestBlock};
+ghost use Rattle.limits.specs.Limits.{longestBlock};
 ghost use Rattle.script.specs.Numbers.{wideChain};
 ghost use Rattle.decimal.specs.Number.{mostDigits};
 ghost use Rattle.replay.specs.Sizes.{lineBytes, mostNumbers, roomBytes};
@@ -10,8 +10,8 @@ use crate::LINE;
 use crate::words;
 use libc::STDERR_FILENO;
 use libc::STDOUT_FILENO;
-use record::Record;
-use runs::LONGEST_BLOCK;
+use limits::LONGEST_BLOCK;
+use orders::Record;
 use script::WIDE_CHAIN;
 
 // The most numbers that a line prints.

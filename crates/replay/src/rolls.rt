@@ -8,8 +8,8 @@ use crate::reply::Reply;
 use crate::words;
 use crate::words::Bounds;
 use crate::words::WORDS;
-use record::Outcome;
-use record::Record;
+use orders::Outcome;
+use orders::Record;
 
 // The first digit of the kinds of these lines in the table of calls.rt, and the kinds.
 pub const FILE: u64 = 3;

@@ -6,12 +6,12 @@ ghost use lib.Dec.{eqb};
 ghost use lib.ListN.{length};
 ghost use Rattle.lsh.specs.WordSize.{isWordSize, sizeOf, blockBytes};
 ghost use Rattle.lsh.specs.Opening.{opening};
-ghost use Rattle.runs.specs.Limits.{isDigestLength};
-ghost use Rattle.buffers.specs.Equal.{equal};
-ghost use Rattle.record.specs.Record.{heldLength, sound};
-ghost use Rattle.rewind.specs.Rewind.{startsOffBlock, keepsTooMuch, heldDiffers, cutCall, rewindInTurn, rewindCall};
-use record::Outcome;
-use record::Record;
+ghost use Rattle.limits.specs.Limits.{isDigestLength};
+ghost use Rattle.lists.specs.Equal.{equal};
+ghost use Rattle.orders.specs.Record.{heldLength, sound};
+ghost use Rattle.orders.specs.Rewind.{startsOffBlock, keepsTooMuch, heldDiffers, cutCall, rewindInTurn, rewindCall};
+use orders::Outcome;
+use orders::Record;
 
 // The record after its last bytes h were handed back and the first keep of them remain.
 pub fn rewind(r: Record, keep: u64, h: &[u8]) -> Outcome

@@ -7,10 +7,10 @@ ghost use Prim.Native.Nat.{ℕ};
 ghost use Rattle.lsh.specs.WordSize.{sizeOf};
 ghost use Rattle.checkpoints.specs.Roll.{isRoll};
 ghost use Rattle.roll.specs.Traversal.{traversalOf};
-ghost use Rattle.rewind_roll.specs.RewindRoll.{rewindRollCall, cutRoll, rewoundRoll};
-ghost use Rattle.rewind_roll.specs.EndRoll.{endRollCall, endedRoll};
-use record::Outcome;
-use record::Record;
+ghost use Rattle.checkpoints.specs.RewindRoll.{rewindRollCall, cutRoll, rewoundRoll};
+ghost use Rattle.checkpoints.specs.EndRoll.{endRollCall, endedRoll};
+use orders::Outcome;
+use orders::Record;
 use roll::Traversal;
 
 // The record after its last bytes h were handed back and the first keep of them remain.

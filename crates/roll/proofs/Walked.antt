@@ -17,7 +17,7 @@ use Rattle.lsh.specs.WordSize.{WordSize}
 use Rattle.lsh.specs.Block.{Chain}
 use Rattle.lsh.proofs.Bytes.{Octets}
 use Rattle.lsh.proofs.Tabulate.{length-tabulate, at-tabulate, tabulate-ext}
-use Rattle.elements.proofs.Repeats.{one-take, one-snoc, repeats-snoc}
+use Rattle.lists.proofs.Repeats.{one-take, one-snoc, repeats-snoc}
 use Rattle.roll.specs.declared.Traversal.{Traversal}
 use Rattle.checkpoints.specs.Due.{Checkpoint}
 use Rattle.checkpoints.specs.Slots.{mostSlots, slotCount, isRollLength}

@@ -7,13 +7,13 @@ ghost use lib.ListN.{length, set, replicate};
 ghost use Rattle.lsh.specs.WordSize.{isWordSize, sizeOf};
 ghost use Rattle.lsh.specs.Bytes.{wordAt};
 ghost use Rattle.lsh.specs.Block.{Chain};
-ghost use Rattle.record.specs.Record.{sound};
+ghost use Rattle.orders.specs.Record.{sound};
 ghost use Rattle.checkpoints.specs.Slots.{indexBytes, mostSlots, slotBytes, slotCount, isRollLength, indexPlace};
 ghost use Rattle.checkpoints.specs.Roll.{nextIndex, links, isRoll, checkpoints, isRollOf, rollAnswer};
 ghost use Rattle.checkpoints.specs.FreeSlot.{freeSlot};
 ghost use Rattle.checkpoints.specs.Checkpoints.{withIndex, withSlot, leadTo, inserted, unlinked};
 ghost use Rattle.roll.specs.Traversal.{marked, notARoll, traversalOf};
-use record::Record;
+use orders::Record;
 
 // The most slots of a roll.
 pub const MOST_SLOTS: usize = 255;

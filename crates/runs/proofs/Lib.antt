@@ -1,4 +1,2 @@
 pub mod Sizes
-pub mod Limits
-pub mod Published
 pub mod Rest

@@ -2,22 +2,16 @@
 ghost use mathlib.Core.Path.{_≡_};
 ghost use Prim.Native.Nat.{_≤_};
 ghost use lib.ListN.{length};
-ghost use Rattle.runs.specs.Limits.{longestDigest};
-ghost use Rattle.finalization.specs.Receipt.{receiptBytes};
-ghost use Rattle.same.specs.Parts.{digestLengthOf, bitLengthOf};
-ghost use Rattle.same.specs.WellFormed.{unusedZero, zeroAfter, wellFormed, IsReceipt};
-ghost use Rattle.same.specs.Same.{sameReceipt, sameCall};
+ghost use Rattle.limits.specs.Limits.{longestDigest};
+ghost use Rattle.receipts.specs.Receipt.{receiptBytes};
+ghost use Rattle.receipts.specs.Parts.{digestLengthOf, bitLengthOf};
+ghost use Rattle.receipts.specs.WellFormed.{unusedZero, zeroAfter, wellFormed, IsReceipt};
+ghost use Rattle.receipts.specs.Same.{sameReceipt, sameCall};
 use finalization::DIGEST;
 use finalization::LENGTH;
 use finalization::MOST_BITS;
 use finalization::RECEIPT;
-
-// The answer to Same: its number, and whether the two receipts are the same. C has it as lsh_sameness.
-#[repr(C)]
-pub struct Sameness {
-    pub number: u32,
-    pub same: bool,
-}
+use receipts::Sameness;
 
 // Whether two receipts are the same.
 pub fn same(a: &[u8], b: &[u8]) -> Sameness

@@ -11,7 +11,7 @@ use native.Mathlib.Omega.{arith}
 use lib.Dec.{eqb}
 use lib.ListN.{length, take, drop, length-drop}
 use lib.Seq.{drop-drop, take-all}
-use Rattle.buffers.specs.Equal.{equal}
+use Rattle.lists.specs.Equal.{equal}
 use Rattle.script.specs.Words.{before, spaces, afterSpaces, wordAt, placeFrom, placeOf}
 use Rattle.script.proofs.Lines.{take-before}
 

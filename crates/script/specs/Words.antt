@@ -4,7 +4,7 @@ use mathlib.Core.Bool.{cond}
 use mathlib.Core.List.{List, [], _∷_}
 use Prim.Native.Nat.{ℕ, zero, suc, _+_}
 use lib.Dec.{eqb}
-use Rattle.buffers.specs.Equal.{equal}
+use Rattle.lists.specs.Equal.{equal}
 
 -- the bytes before the first that is the mark, all of them if none is
 abbrev pub before : ℕ → List ℕ → List ℕ

@@ -4,15 +4,15 @@ ghost use mathlib.Core.Path.{_≡_};
 ghost use mathlib.Core.Bool.{true, false};
 ghost use lib.ListN.{length};
 ghost use Rattle.lsh.specs.WordSize.{sizeOf, blockBytes};
-ghost use Rattle.record.specs.Record.{sound, isBegun};
-ghost use Rattle.rewind.specs.Rewind.{keepsTooMuch, cutCall};
-ghost use Rattle.split_rewind.specs.Begin.{beginCall};
-ghost use Rattle.split_rewind.specs.HandBack.{noBlock, handedBack, handBackCall};
-ghost use Rattle.split_rewind.specs.End.{handed, lastBytes, endInTurn, endCall};
-ghost use Rattle.split_rewind.specs.Abandon.{abandonCall};
-use record::Outcome;
-use record::Record;
-use record::Split;
+ghost use Rattle.orders.specs.Record.{sound, isBegun};
+ghost use Rattle.orders.specs.Rewind.{keepsTooMuch, cutCall};
+ghost use Rattle.orders.specs.Begin.{beginCall};
+ghost use Rattle.orders.specs.HandBack.{noBlock, handedBack, handBackCall};
+ghost use Rattle.orders.specs.End.{handed, lastBytes, endInTurn, endCall};
+ghost use Rattle.orders.specs.Abandon.{abandonCall};
+use orders::Outcome;
+use orders::Record;
+use orders::Split;
 
 // The record with a split rewind begun, by the bytes that it holds.
 pub fn begin(r: Record, bytes: &[u8]) -> Outcome

@@ -3,16 +3,16 @@ ghost use mathlib.Core.Path.{_≡_};
 ghost use mathlib.Core.List.{_++_};
 ghost use Prim.Native.Nat.{_≤_};
 ghost use lib.ListN.{length, take, drop};
-ghost use Rattle.runs.specs.Limits.{longestBlock};
-ghost use Rattle.tag_answers.specs.KeyAnswer.{tagBytes, tagAnswer, finishAnswer};
-ghost use Rattle.tag.specs.Tag.{tagOutput};
-ghost use Rattle.tag.specs.Start.{startCall};
-ghost use Rattle.tag.specs.Finish.{finishOutput};
-ghost use Rattle.tag.specs.Check.{checkCall};
-use record::Outcome;
-use record::Record;
-use runs::LONGEST_BLOCK;
-use same::Sameness;
+ghost use Rattle.limits.specs.Limits.{longestBlock};
+ghost use Rattle.tags.specs.KeyAnswer.{tagBytes, tagAnswer, finishAnswer};
+ghost use Rattle.tags.specs.Tag.{tagOutput};
+ghost use Rattle.tags.specs.Start.{startCall};
+ghost use Rattle.tags.specs.Finish.{finishOutput};
+ghost use Rattle.tags.specs.Check.{checkCall};
+use limits::LONGEST_BLOCK;
+use orders::Outcome;
+use orders::Record;
+use receipts::Sameness;
 
 // Writes the tag of the message, if the answer is 0.
 pub fn tag(w: u64, n: u64, key: &[u8], message: &[u8], output: &mut [u8]) -> u32

@@ -1,7 +1,7 @@
 // What the calls with a key answer, by w, n, the lengths of the key and the message, and the size of the output.
 ghost use mathlib.Core.Path.{_≡_};
-ghost use Rattle.tag_answers.specs.KeyAnswer.{keyAnswer, roomAnswer, tagAnswer, finishAnswer};
-use record::Record;
+ghost use Rattle.tags.specs.KeyAnswer.{keyAnswer, roomAnswer, tagAnswer, finishAnswer};
+use orders::Record;
 
 // The answer for one message. Nothing is hashed before it is known.
 pub fn answer(w: u64, n: u64, key: usize, message: usize, size: usize) -> u32
@@ -27,7 +27,7 @@ pub fn key_answer(w: u64, n: u64, key: usize, message: usize) -> u32
     if n % 8 != 0 {
         return 18;
     }
-    if (runs::LIMIT < key) | (runs::LIMIT - runs::block_bytes(w) < message) {
+    if (limits::LIMIT < key) | (limits::LIMIT - runs::block_bytes(w) < message) {
         return 5;
     }
     0
@@ -43,7 +43,7 @@ pub fn finish_answer(r: Record, key: usize, size: usize) -> u32
     if r.n % 8 != 0 {
         return 18;
     }
-    if runs::LIMIT < key {
+    if limits::LIMIT < key {
         return 5;
     }
     room_answer(r.n, size)

@@ -8,11 +8,11 @@ use native.Mathlib.Numerals.{add-one}
 use lib.ListN.{length, drop}
 use lib.Seq.{drop-cons}
 use Rattle.lsh.specs.Tabulate.{at}
-use Rattle.buffers.specs.Equal.{equal}
-use Rattle.buffers.proofs.Equal.{equal-true}
-use Rattle.same.specs.WellFormed.{IsReceipt}
-use Rattle.same.specs.Same.{sameReceipt}
-use Rattle.same.proofs.Agreement.{same-is-equal}
+use Rattle.lists.specs.Equal.{equal}
+use Rattle.lists.proofs.Equal.{equal-true}
+use Rattle.receipts.specs.WellFormed.{IsReceipt}
+use Rattle.receipts.specs.Same.{sameReceipt}
+use Rattle.receipts.proofs.Agreement.{same-is-equal}
 use Rattle.tally.specs.Checksum.{checksumBound, checksum, checksumAfter}
 
 -- the bytes from place i on, by the byte there

@@ -3,28 +3,19 @@ ghost use mathlib.Core.Path.{_≡_};
 ghost use Prim.Native.Nat.{ℕ, _*_, _<_, _≤_};
 ghost use lib.ListN.{length};
 ghost use Rattle.lsh.specs.Tabulate.{at};
-ghost use Rattle.finalization.specs.Receipt.{receiptBytes};
-ghost use Rattle.same.specs.WellFormed.{IsReceipt};
-ghost use Rattle.tally.specs.Kinds.{isBlank, cameBefore};
-ghost use Rattle.tally.specs.Tally.{mostReceipts, receiptCount, receiptAt, receipts, receiptsOf, firstMalformed, counted, refusedTally, tallyCall};
+ghost use Rattle.receipts.specs.Receipt.{receiptBytes};
+ghost use Rattle.receipts.specs.WellFormed.{IsReceipt};
+ghost use Rattle.receipts.specs.Kinds.{isBlank, cameBefore};
+ghost use Rattle.receipts.specs.Tally.{mostReceipts, receiptCount, receiptAt, receipts, receiptsOf, firstMalformed, counted, refusedTally, tallyCall};
 ghost use Rattle.tally.specs.Checksum.{checksum};
 use finalization::RECEIPT;
+use receipts::Counts;
 
 // The most receipts of a list.
 pub const MOST_RECEIPTS: usize = 960;
 
 // A checksum is below this, so that 257 times it and a byte more fit in 64 bits.
 const CHECKSUM_BOUND: u64 = 1 << 55;
-
-// The answer to Tally: its number, the place of the first malformed receipt if the number is 14, and the counts. C has it as lsh_counts.
-#[repr(C)]
-pub struct Counts {
-    pub number: u32,
-    pub place: u64,
-    pub firsts: u64,
-    pub reprints: u64,
-    pub blanks: u64,
-}
 
 // Counts the receipts of a list.
 pub fn tally(list: &[u8]) -> Counts

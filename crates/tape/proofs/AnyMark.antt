@@ -6,16 +6,16 @@ use mathlib.Core.List.{List}
 use Prim.Native.Nat.{ℕ, _+_, _*_}
 use lib.ListN.{length}
 use Rattle.answers.specs.Output.{written}
-use Rattle.record.specs.declared.Record.{Record}
-use Rattle.record.specs.declared.Split.{Split}
-use Rattle.record.specs.Record.{sound, heldBytes, withSplit}
-use Rattle.finalization.specs.Receipt.{receiptBytes, receipt}
-use Rattle.close.specs.Close.{closeAnswer, closedDigest, closeOutput}
+use Rattle.orders.specs.declared.Record.{Record}
+use Rattle.orders.specs.declared.Split.{Split}
+use Rattle.orders.specs.Record.{sound, heldBytes, withSplit}
+use Rattle.receipts.specs.Receipt.{receiptBytes, receipt}
+use Rattle.receipts.specs.Close.{closeAnswer, closedDigest, closeOutput}
 use Rattle.lsh.specs.Bits.{bytesOfBits}
-use Rattle.hmac.specs.Hmac.{tagOf}
-use Rattle.tag_answers.specs.KeyAnswer.{tagBytes}
-use Rattle.tag_answers.specs.KeyAnswer.{finishAnswer}
-use Rattle.tag.specs.Finish.{finishOutput}
+use Rattle.tags.specs.Hmac.{tagOf}
+use Rattle.tags.specs.KeyAnswer.{tagBytes}
+use Rattle.tags.specs.KeyAnswer.{finishAnswer}
+use Rattle.tags.specs.Finish.{finishOutput}
 
 module _ (r : Record) (s : Split) (ok : sound r ≡ true) (still : sound (withSplit r s) ≡ true) (last e : ℕ) where
   pub same-answer-unfinished : (size : ℕ) → closeAnswer (withSplit r s) last e size ≡ closeAnswer r last e size

@@ -11,30 +11,30 @@ use borrow.Author.Tests.{eqb-true, not-false}
 use Rattle.lsh.specs.WordSize.{isWordSize, sizeOf, blockBytes}
 use Rattle.lsh.specs.Padding.{restOf}
 use Rattle.answers.specs.First.{first}
-use Rattle.runs.specs.Limits.{isDigestLength, limit}
-use Rattle.buffers.proofs.Equal.{equal-self}
-use Rattle.record.specs.declared.Record.{Record}
-use Rattle.record.specs.declared.Outcome.{Outcome}
-use Rattle.record.specs.Split.{notBegun}
-use Rattle.record.specs.Record.{heldLength, sound, isBegun, withSplit, recordOf, refused, stepped}
-use Rattle.record.specs.Turn.{answered, turnAnswer, inTurn}
-use Rattle.record.proofs.Begun.{not-begun-sound, with-sound}
-use Rattle.record.proofs.Strings.{held-record, record-idle}
-use Rattle.record.proofs.InTurn.{in-turn, out-of-turn}
-use Rattle.append.specs.Append.{appendAccepted, appendCall}
-use Rattle.rewind.specs.Rewind.{startsOffBlock, keepsTooMuch, heldDiffers, rewindInTurn, rewindCall}
-use Rattle.rewind.proofs.Lengths.{OnBlock, on-block, keeps-few}
-use Rattle.split_rewind.specs.Begin.{begun, beginCall}
-use Rattle.split_rewind.specs.HandBack.{noBlock, handBackCall}
-use Rattle.split_rewind.specs.End.{handed, endCut, endInTurn, endCall}
-use Rattle.split_rewind.specs.Abandon.{abandonCall}
-use Rattle.split_rewind.proofs.Lengths.{a-block}
+use Rattle.limits.specs.Limits.{isDigestLength, limit}
+use Rattle.lists.proofs.Equal.{equal-self}
+use Rattle.orders.specs.declared.Record.{Record}
+use Rattle.orders.specs.declared.Outcome.{Outcome}
+use Rattle.orders.specs.Split.{notBegun}
+use Rattle.orders.specs.Record.{heldLength, sound, isBegun, withSplit, recordOf, refused, stepped}
+use Rattle.orders.specs.Turn.{answered, turnAnswer, inTurn}
+use Rattle.orders.proofs.Begun.{not-begun-sound, with-sound}
+use Rattle.orders.proofs.Strings.{held-record, record-idle}
+use Rattle.orders.proofs.InTurn.{in-turn, out-of-turn}
+use Rattle.orders.specs.Append.{appendAccepted, appendCall}
+use Rattle.orders.specs.Rewind.{startsOffBlock, keepsTooMuch, heldDiffers, rewindInTurn, rewindCall}
+use Rattle.orders.proofs.Lengths.{OnBlock, on-block, keeps-few}
+use Rattle.orders.specs.Begin.{begun, beginCall}
+use Rattle.orders.specs.HandBack.{noBlock, handBackCall}
+use Rattle.orders.specs.End.{handed, endCut, endInTurn, endCall}
+use Rattle.orders.specs.Abandon.{abandonCall}
+use Rattle.orders.proofs.HandBacks.{a-block}
 use Rattle.checkpoints.specs.Roll.{isRollOf, rollAnswer}
 use Rattle.checkpoints.specs.Checkpoints.{ifAccepted}
 use Rattle.checkpoints.proofs.InTurn.{roll-in-turn, roll-out-of-turn}
-use Rattle.append_roll.specs.AppendRoll.{appendRollAnswer, appendRollCall, appendedRoll}
-use Rattle.rewind_roll.specs.RewindRoll.{rewindRollCall, cutRoll, rewoundRoll}
-use Rattle.rewind_roll.specs.EndRoll.{endRollCall, endedRoll}
+use Rattle.checkpoints.specs.AppendRoll.{appendRollAnswer, appendRollCall, appendedRoll}
+use Rattle.checkpoints.specs.RewindRoll.{rewindRollCall, cutRoll, rewoundRoll}
+use Rattle.checkpoints.specs.EndRoll.{endRollCall, endedRoll}
 use Rattle.tape.specs.Sequence.{Given}
 use Rattle.tape.specs.Tape.{Lent, NoRoll, WithRoll, byLent, Tape, plain, unfinished, wholeBlocks, tooManyBlocks, stays, becomes, tapeAppend, tapeCut, tapeRewind, tapeBegin, tapeHandBack, tapeHanded, tapeEnd, tapeAbandon}
 use Rattle.tape.specs.TapeRecord.{blockAfter, tapeSplit, tapeRecord}

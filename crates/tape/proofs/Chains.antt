@@ -13,12 +13,12 @@ use Rattle.lsh.specs.Opening.{opening}
 use Rattle.lsh.specs.Padding.{restOf}
 use Rattle.lsh.specs.Chains.{chainAfter}
 use Rattle.lsh.proofs.Chains.{after-all, after-further, after-front}
-use Rattle.record.specs.Record.{recordOf}
-use Rattle.record.proofs.Strings.{held-record}
+use Rattle.orders.specs.Record.{recordOf}
+use Rattle.orders.proofs.Strings.{held-record}
 use Rattle.checkpoints.specs.Due.{Checkpoint, checkpointsAt, numbersOf, dueNumbers, upTo}
 use Rattle.checkpoints.proofs.Spacing.{no-fewer-blocks}
 use Rattle.checkpoints.proofs.Due.{due-parts, due-each, due-up-to, same-at, numbers-at, take-at-numbers}
-use Rattle.append_roll.specs.AppendRoll.{due, chainAt}
+use Rattle.checkpoints.specs.AppendRoll.{due, chainAt}
 use Rattle.tape.specs.Tape.{wholeBlocks}
 use Rattle.tape.specs.TapeRoll.{tapeCheckpoints}
 

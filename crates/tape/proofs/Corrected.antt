@@ -9,10 +9,10 @@ use Prim.Native.Nat.{ℕ, _-_}
 use native.Mathlib.Nat.{zero-div}
 use native.Mathlib.Omega.{arith}
 use Rattle.lsh.specs.WordSize.{isWordSize, sizeOf, blockBytes}
-use Rattle.runs.specs.Limits.{isDigestLength}
-use Rattle.record.specs.declared.Record.{Record}
-use Rattle.record.specs.Record.{sound, recordOf, withSplit}
-use Rattle.record.specs.Open.{openCall}
+use Rattle.limits.specs.Limits.{isDigestLength}
+use Rattle.orders.specs.declared.Record.{Record}
+use Rattle.orders.specs.Record.{sound, recordOf, withSplit}
+use Rattle.orders.specs.Open.{openCall}
 use Rattle.tape.specs.Sequence.{answers}
 use Rattle.tape.specs.Tape.{Lent, Tape, plain, wholeBlocks}
 use Rattle.tape.specs.TapeRecord.{tapeRecord}

@@ -14,21 +14,21 @@ use Rattle.lsh.specs.ByteString.{Bytes}
 use Rattle.lsh.proofs.Bytes.{bytes-append}
 use Rattle.answers.specs.First.{first}
 use Rattle.answers.specs.Output.{written}
-use Rattle.runs.specs.Limits.{limit}
-use Rattle.record.specs.declared.Record.{Record}
-use Rattle.record.specs.Record.{sound, recordOf}
-use Rattle.record.proofs.Strings.{record-sound}
-use Rattle.finalization.specs.Ending.{messageBits}
-use Rattle.close.specs.Close.{closedDigest}
+use Rattle.limits.specs.Limits.{limit}
+use Rattle.orders.specs.declared.Record.{Record}
+use Rattle.orders.specs.Record.{sound, recordOf}
+use Rattle.orders.proofs.Strings.{record-sound}
+use Rattle.receipts.specs.Ending.{messageBits}
+use Rattle.receipts.specs.Close.{closedDigest}
 use Rattle.tape.proofs.Messages.{closed-digest}
-use Rattle.hmac.specs.Hmac.{hashBytes, innerKey, tagOf, hmac}
-use Rattle.hmac.proofs.Keys.{inner-length, inner-bytes}
-use Rattle.tag_answers.specs.KeyAnswer.{isWholeBytes, tagBytes, keyAnswer}
-use Rattle.tag_answers.specs.KeyAnswer.{tagAnswer}
-use Rattle.tag.specs.Tag.{tagOutput}
-use Rattle.tag_answers.specs.KeyAnswer.{finishAnswer}
-use Rattle.tag.specs.Finish.{finishOutput}
-use Rattle.tag_answers.proofs.Accepted.{Keyed}
+use Rattle.tags.specs.Hmac.{hashBytes, innerKey, tagOf, hmac}
+use Rattle.tags.proofs.Keys.{inner-length, inner-bytes}
+use Rattle.tags.specs.KeyAnswer.{isWholeBytes, tagBytes, keyAnswer}
+use Rattle.tags.specs.KeyAnswer.{tagAnswer}
+use Rattle.tags.specs.Tag.{tagOutput}
+use Rattle.tags.specs.KeyAnswer.{finishAnswer}
+use Rattle.tags.specs.Finish.{finishOutput}
+use Rattle.tags.proofs.Accepted.{Keyed}
 
 -- the digest that a record of bytes gives without extra bits
 inner-digest : (w n : ℕ) (m : List ℕ) → isWordSize w ≡ true → Bytes m → bytesOfBits (closedDigest (recordOf w n m) 0 0) ≡ hashBytes w n m

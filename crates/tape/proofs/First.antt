@@ -11,13 +11,13 @@ use borrow.Author.Tests.{not-false}
 use Rattle.lsh.specs.WordSize.{isWordSize, sizeOf, blockBytes}
 use Rattle.lsh.proofs.Figures.{block-some}
 use Rattle.answers.proofs.Tests.{test, passed}
-use Rattle.runs.specs.Limits.{isDigestLength}
-use Rattle.record.specs.declared.Outcome.{Outcome}
-use Rattle.record.specs.Record.{zeros, recordOf, refused}
-use Rattle.record.specs.Open.{opened, openCall}
-use Rattle.record.proofs.Strings.{open-next, record-none}
-use Rattle.hmac.proofs.Keys.{inner-bytes}
-use Rattle.tag.proofs.Started.{start-accepted, started-record, started-length, started-count}
+use Rattle.limits.specs.Limits.{isDigestLength}
+use Rattle.orders.specs.declared.Outcome.{Outcome}
+use Rattle.orders.specs.Record.{zeros, recordOf, refused}
+use Rattle.orders.specs.Open.{opened, openCall}
+use Rattle.orders.proofs.Strings.{open-next, record-none}
+use Rattle.tags.proofs.Keys.{inner-bytes}
+use Rattle.tags.proofs.Started.{start-accepted, started-record, started-length, started-count}
 use Rattle.tape.specs.Tape.{wholeBlocks}
 use Rattle.tape.specs.First.{First, Opened, Started, firstCall, firstBytes}
 use Rattle.tape.proofs.Records.{WithinLimit}

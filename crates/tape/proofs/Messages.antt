@@ -22,16 +22,16 @@ use Rattle.lsh.proofs.Padding.{length-rest, rest-bytes, blocks-append}
 use Rattle.message.proofs.Padded.{padded-rest}
 use Rattle.answers.specs.Output.{written}
 use Rattle.answers.proofs.Output.{same-written}
-use Rattle.runs.specs.Limits.{isDigestLength, limit}
-use Rattle.record.specs.declared.Record.{Record}
-use Rattle.record.specs.Record.{heldBytes, recordOf}
-use Rattle.record.proofs.Strings.{held-record, record-sound}
-use Rattle.finalization.specs.Receipt.{receiptBytes, receipt}
-use Rattle.finalization.specs.Ending.{messageBits}
-use Rattle.finalization.proofs.Ending.{message-length}
-use Rattle.whole.specs.Whole.{wholeAnswer, wholeOutput}
-use Rattle.whole.proofs.Answers.{accepted}
-use Rattle.close.specs.Close.{closeAnswer, closedDigest, closeOutput}
+use Rattle.limits.specs.Limits.{isDigestLength, limit}
+use Rattle.orders.specs.declared.Record.{Record}
+use Rattle.orders.specs.Record.{heldBytes, recordOf}
+use Rattle.orders.proofs.Strings.{held-record, record-sound}
+use Rattle.receipts.specs.Receipt.{receiptBytes, receipt}
+use Rattle.receipts.specs.Ending.{messageBits}
+use Rattle.receipts.proofs.Ending.{message-length}
+use Rattle.receipts.specs.Whole.{wholeAnswer, wholeOutput}
+use Rattle.receipts.proofs.WholeAnswers.{accepted}
+use Rattle.receipts.specs.Close.{closeAnswer, closedDigest, closeOutput}
 
 extra-few : (last e : ℕ) → e ≤ 7 → length (take e (bitsOfByte last)) ≤ 7
 unfolding bitsOfByte

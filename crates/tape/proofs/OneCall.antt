@@ -15,11 +15,11 @@ use Rattle.lsh.specs.WordSize.{sizeOf, blockBytes}
 use Rattle.lsh.proofs.Tests.{either}
 use Rattle.lsh.proofs.Figures.{block-some}
 use Rattle.lsh.proofs.Bytes.{bytes-append}
-use Rattle.runs.specs.Limits.{limit}
-use Rattle.rewind.specs.Rewind.{startsOffBlock, keepsTooMuch}
-use Rattle.rewind.proofs.Lengths.{OnBlock, on-block, keeps-few, total-is}
-use Rattle.split_rewind.specs.HandBack.{noBlock}
-use Rattle.split_rewind.proofs.Lengths.{a-block, blocks-on}
+use Rattle.limits.specs.Limits.{limit}
+use Rattle.orders.specs.Rewind.{startsOffBlock, keepsTooMuch}
+use Rattle.orders.proofs.Lengths.{OnBlock, on-block, keeps-few, total-is}
+use Rattle.orders.specs.HandBack.{noBlock}
+use Rattle.orders.proofs.HandBacks.{a-block, blocks-on}
 use Rattle.checkpoints.proofs.Spacing.{no-fewer-blocks}
 use Rattle.tape.specs.Sequence.{Given}
 use Rattle.tape.specs.Tape.{Lent, NoRoll, WithRoll, Tape, plain, unfinished, wholeBlocks, tooManyBlocks, stays, becomes, tapeAppend, tapeCut, tapeRewind, tapeBegin, tapeHandBack, tapeHanded, tapeEnd, tapeAbandon}

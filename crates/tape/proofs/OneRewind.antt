@@ -5,21 +5,21 @@ use mathlib.Core.Bool.{Bool, true, false, not, cond}
 use mathlib.Core.List.{List}
 use Prim.Native.Nat.{ℕ}
 use lib.Dec.{eqb}
-use Rattle.record.specs.declared.Record.{Record}
-use Rattle.record.specs.declared.Outcome.{Outcome}
-use Rattle.record.specs.Record.{isBegun, withSplit, refused}
-use Rattle.record.specs.Turn.{answered}
-use Rattle.record.specs.Arrays.{Arrays}
-use Rattle.record.proofs.InTurn.{in-turn}
+use Rattle.orders.specs.declared.Record.{Record}
+use Rattle.orders.specs.declared.Outcome.{Outcome}
+use Rattle.orders.specs.Record.{isBegun, withSplit, refused}
+use Rattle.orders.specs.Turn.{answered}
+use Rattle.orders.specs.Arrays.{Arrays}
+use Rattle.orders.proofs.InTurn.{in-turn}
 use Rattle.checkpoints.specs.Roll.{isRollOf}
 use Rattle.checkpoints.specs.Checkpoints.{ifAccepted}
 use Rattle.checkpoints.proofs.InTurn.{roll-in-turn}
-use Rattle.rewind.specs.Rewind.{rewindInTurn, rewindCall}
-use Rattle.split_rewind.specs.End.{endInTurn, endCall}
-use Rattle.split_rewind.specs.OneRewind.{afterSteps, StepsAccepted, answeredOn, joined}
-use Rattle.split_rewind.proofs.OneRewind.{begin-is, x-sound, x-begun, as-before, one-rewind}
-use Rattle.rewind_roll.specs.RewindRoll.{rewindRollCall, cutRoll, rewoundRoll}
-use Rattle.rewind_roll.specs.EndRoll.{endRollCall, endedRoll}
+use Rattle.orders.specs.Rewind.{rewindInTurn, rewindCall}
+use Rattle.orders.specs.End.{endInTurn, endCall}
+use Rattle.orders.specs.OneRewind.{afterSteps, StepsAccepted, answeredOn, joined}
+use Rattle.orders.proofs.OneRewind.{begin-is, x-sound, x-begun, as-before, one-rewind}
+use Rattle.checkpoints.specs.RewindRoll.{rewindRollCall, cutRoll, rewoundRoll}
+use Rattle.checkpoints.specs.EndRoll.{endRollCall, endedRoll}
 use Rattle.tape.specs.AsOneRewind.{AsOneRewind}
 
 -- a roll is cut by the number and the new total alone

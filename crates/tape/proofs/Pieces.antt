@@ -6,19 +6,19 @@ use Prim.Native.Nat.{ℕ}
 use native.Mathlib.Omega.{arith}
 use lib.ListN.{length, length-append}
 use Rattle.lsh.specs.ByteString.{ByteString}
-use Rattle.record.specs.declared.Record.{Record}
-use Rattle.record.specs.Record.{refused}
-use Rattle.hmac.specs.Hmac.{innerKey}
-use Rattle.tag_answers.specs.KeyAnswer.{tagAnswer}
-use Rattle.tag.specs.Tag.{tagOutput}
-use Rattle.tag.specs.Start.{startCall}
-use Rattle.tag_answers.specs.KeyAnswer.{finishAnswer}
-use Rattle.tag.specs.Finish.{finishOutput}
-use Rattle.append.specs.Pieces.{afterPieces, acceptedBytes}
-use Rattle.tag_answers.proofs.Accepted.{Keyed}
-use Rattle.tag.proofs.Started.{start-accepted, started-record, started-length, keyed-message}
+use Rattle.orders.specs.declared.Record.{Record}
+use Rattle.orders.specs.Record.{refused}
+use Rattle.tags.specs.Hmac.{innerKey}
+use Rattle.tags.specs.KeyAnswer.{tagAnswer}
+use Rattle.tags.specs.Tag.{tagOutput}
+use Rattle.tags.specs.Start.{startCall}
+use Rattle.tags.specs.KeyAnswer.{finishAnswer}
+use Rattle.tags.specs.Finish.{finishOutput}
+use Rattle.orders.specs.Pieces.{afterPieces, acceptedBytes}
+use Rattle.tags.proofs.Accepted.{Keyed}
+use Rattle.tags.proofs.Started.{start-accepted, started-record, started-length, keyed-message}
 use Rattle.tape.proofs.Finished.{finish-answer, finish-output}
-use Rattle.append.proofs.Pieces.{Joined, joined}
+use Rattle.orders.proofs.Pieces.{Joined, joined}
 
 module _ (w n : ℕ) (key : List ℕ) (accepted : startCall w n key .number ≡ 0) (ps : List ByteString) where
   abbrev started : Record

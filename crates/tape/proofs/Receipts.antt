@@ -6,16 +6,16 @@ use mathlib.Core.List.{List}
 use Prim.Native.Nat.{ℕ}
 use lib.ListN.{length}
 use Rattle.lsh.specs.WordSize.{isWordSize}
-use Rattle.runs.specs.Limits.{isDigestLength}
-use Rattle.record.specs.declared.Record.{Record}
-use Rattle.record.specs.declared.Split.{Split}
-use Rattle.record.specs.Split.{notBegun}
-use Rattle.record.specs.Record.{sound, withSplit, recordOf}
-use Rattle.record.specs.Arrays.{Arrays}
-use Rattle.split_rewind.specs.OneRewind.{afterSteps, StepsAccepted}
-use Rattle.split_rewind.proofs.OneRewind.{begin-is, x-sound, as-before}
-use Rattle.whole.specs.Whole.{wholeAnswer, wholeOutput}
-use Rattle.close.specs.Close.{closeAnswer, closeOutput}
+use Rattle.limits.specs.Limits.{isDigestLength}
+use Rattle.orders.specs.declared.Record.{Record}
+use Rattle.orders.specs.declared.Split.{Split}
+use Rattle.orders.specs.Split.{notBegun}
+use Rattle.orders.specs.Record.{sound, withSplit, recordOf}
+use Rattle.orders.specs.Arrays.{Arrays}
+use Rattle.orders.specs.OneRewind.{afterSteps, StepsAccepted}
+use Rattle.orders.proofs.OneRewind.{begin-is, x-sound, as-before}
+use Rattle.receipts.specs.Whole.{wholeAnswer, wholeOutput}
+use Rattle.receipts.specs.Close.{closeAnswer, closeOutput}
 use Rattle.tape.proofs.Messages.{close-answer, close-output}
 use Rattle.tape.proofs.AnyMark.{same-answer-unfinished, same-output-unfinished}
 use Rattle.tape.specs.Tape.{Lent, Tape}

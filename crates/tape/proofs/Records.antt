@@ -20,16 +20,16 @@ use Rattle.lsh.proofs.Bytes.{bytes-take}
 use Rattle.lsh.proofs.Blocks.{forwards-chain, backwards-forwards, forwards-append}
 use Rattle.lsh.proofs.Opening.{opening-chain}
 use Rattle.lsh.proofs.Padding.{blocks-short}
-use Rattle.runs.specs.Limits.{isDigestLength, limit}
-use Rattle.buffers.proofs.Equal.{equal-self}
-use Rattle.record.specs.declared.Outcome.{Outcome}
-use Rattle.record.specs.Split.{notBegun}
-use Rattle.record.specs.Record.{sound, heldOf, recordOf}
-use Rattle.record.proofs.Strings.{held-record, record-sound}
-use Rattle.append.specs.Append.{appendAccepted}
-use Rattle.append.proofs.Joins.{append-record}
-use Rattle.rewind.specs.Rewind.{heldDiffers, reached, Cut, openingDiffers, rewound, cutCall}
-use Rattle.rewind.proofs.Lengths.{OnBlock, same-fill}
+use Rattle.limits.specs.Limits.{isDigestLength, limit}
+use Rattle.lists.proofs.Equal.{equal-self}
+use Rattle.orders.specs.declared.Outcome.{Outcome}
+use Rattle.orders.specs.Split.{notBegun}
+use Rattle.orders.specs.Record.{sound, heldOf, recordOf}
+use Rattle.orders.proofs.Strings.{held-record, record-sound}
+use Rattle.orders.specs.Append.{appendAccepted}
+use Rattle.orders.proofs.Joins.{append-record}
+use Rattle.orders.specs.Rewind.{heldDiffers, reached, Cut, openingDiffers, rewound, cutCall}
+use Rattle.orders.proofs.Lengths.{OnBlock, same-fill}
 use Rattle.tape.specs.Tape.{wholeBlocks}
 use Rattle.lsh.proofs.Splitting.{blocks-split, rest-split, blocks-kept, rest-kept}
 

@@ -16,8 +16,8 @@ use Rattle.lsh.proofs.Figures.{amounts}
 use Rattle.lsh.proofs.Bytes.{octets}
 use Rattle.lsh.proofs.Blocks.{forwards-chain}
 use Rattle.lsh.proofs.Opening.{opening-chain}
-use Rattle.record.specs.declared.Record.{Record}
-use Rattle.record.specs.Record.{recordOf}
+use Rattle.orders.specs.declared.Record.{Record}
+use Rattle.orders.specs.Record.{recordOf}
 use Rattle.checkpoints.specs.Due.{Checkpoint, checkpointsAt, numbersOf, upTo}
 use Rattle.checkpoints.specs.Slots.{rollBytes, slotCount}
 use Rattle.checkpoints.specs.Roll.{newRoll, shown, isRoll, checkpoints}
@@ -25,9 +25,9 @@ use Rattle.checkpoints.specs.Checkpoints.{cutTo}
 use Rattle.checkpoints.proofs.Due.{due-many, due-none}
 use Rattle.checkpoints.proofs.Form.{new-size, new-shown, new-roll, slots-are, roll-of, is-roll-of}
 use Rattle.checkpoints.proofs.Shown.{shown-many, unlinked-cut}
-use Rattle.append_roll.specs.AppendRoll.{due, isFull, chainAt}
-use Rattle.append_roll.proofs.Answers.{full-is, goal-of}
-use Rattle.append_roll.proofs.Shows.{inserted-due}
+use Rattle.checkpoints.specs.AppendRoll.{due, isFull, chainAt}
+use Rattle.checkpoints.proofs.AppendAnswers.{full-is, goal-of}
+use Rattle.checkpoints.proofs.AppendShows.{inserted-due}
 use Rattle.tape.specs.Tape.{Lent, NoRoll, WithRoll, RollSize, wholeBlocks, tooManyBlocks}
 use Rattle.tape.specs.TapeRoll.{tapeCheckpoints, TapeRoll, RollShows, lentRoll}
 use Rattle.tape.proofs.Chains.{checkpoints-grow, checkpoints-cut}

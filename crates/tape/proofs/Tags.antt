@@ -8,18 +8,18 @@ use lib.ListN.{length}
 use lib.Seq.{drop-at}
 use Rattle.lsh.specs.ByteString.{Bytes}
 use Rattle.lsh.proofs.Bytes.{bytes-drop}
-use Rattle.record.specs.declared.Record.{Record}
-use Rattle.record.specs.declared.Split.{Split}
-use Rattle.record.specs.Split.{notBegun}
-use Rattle.record.specs.Record.{sound, withSplit, recordOf}
-use Rattle.hmac.specs.Hmac.{innerKey}
-use Rattle.tag_answers.specs.KeyAnswer.{tagAnswer}
-use Rattle.tag.specs.Tag.{tagOutput}
-use Rattle.tag.specs.Start.{startCall}
-use Rattle.tag_answers.specs.KeyAnswer.{finishAnswer}
-use Rattle.tag.specs.Finish.{finishOutput}
-use Rattle.tag_answers.proofs.Accepted.{Keyed}
-use Rattle.tag.proofs.Started.{start-accepted, keyed-message}
+use Rattle.orders.specs.declared.Record.{Record}
+use Rattle.orders.specs.declared.Split.{Split}
+use Rattle.orders.specs.Split.{notBegun}
+use Rattle.orders.specs.Record.{sound, withSplit, recordOf}
+use Rattle.tags.specs.Hmac.{innerKey}
+use Rattle.tags.specs.KeyAnswer.{tagAnswer}
+use Rattle.tags.specs.Tag.{tagOutput}
+use Rattle.tags.specs.Start.{startCall}
+use Rattle.tags.specs.KeyAnswer.{finishAnswer}
+use Rattle.tags.specs.Finish.{finishOutput}
+use Rattle.tags.proofs.Accepted.{Keyed}
+use Rattle.tags.proofs.Started.{start-accepted, keyed-message}
 use Rattle.tape.proofs.Finished.{finish-answer, finish-output}
 use Rattle.tape.proofs.AnyMark.{finish-answer-unfinished, finish-output-unfinished}
 use Rattle.tape.specs.Tape.{Lent, Tape}

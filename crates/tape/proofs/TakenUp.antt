@@ -12,12 +12,12 @@ use Rattle.lsh.specs.WordSize.{WordSize, isWordSize, sizeOf, blockBytes}
 use Rattle.lsh.specs.Opening.{opening}
 use Rattle.lsh.specs.Chains.{chainAfter}
 use Rattle.lsh.proofs.Figures.{block-some}
-use Rattle.runs.specs.Limits.{isDigestLength, limit}
-use Rattle.record.specs.declared.Record.{Record}
-use Rattle.record.specs.Record.{recordOf, recordAt}
-use Rattle.record.proofs.Strings.{record-at}
-use Rattle.append.specs.Append.{appendCall}
-use Rattle.append.proofs.Joins.{append-within}
+use Rattle.limits.specs.Limits.{isDigestLength, limit}
+use Rattle.orders.specs.declared.Record.{Record}
+use Rattle.orders.specs.Record.{recordOf, recordAt}
+use Rattle.orders.proofs.Strings.{record-at}
+use Rattle.orders.specs.Append.{appendCall}
+use Rattle.orders.proofs.Joins.{append-within}
 use Rattle.checkpoints.specs.Due.{Checkpoint, checkpointsAt, dueNumbers, Each}
 use Rattle.checkpoints.specs.Roll.{shown}
 use Rattle.checkpoints.proofs.Due.{due-each}

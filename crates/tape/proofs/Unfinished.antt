@@ -23,31 +23,31 @@ use Rattle.lsh.proofs.Blocks.{forwards-chain}
 use Rattle.lsh.proofs.Opening.{opening-chain}
 use Rattle.lsh.proofs.Padding.{length-rest, one-block}
 use Rattle.lsh.proofs.Chains.{after-more, after-all, after-chain, after-take}
-use Rattle.runs.specs.Limits.{longestBlock, isDigestLength}
-use Rattle.runs.proofs.Limits.{block-most}
-use Rattle.buffers.proofs.Zeros.{filled-length}
-use Rattle.buffers.specs.ZeroFilled.{zeroFilled}
-use Rattle.buffers.specs.Equal.{equal}
-use Rattle.buffers.proofs.Equal.{equal-self}
-use Rattle.buffers.specs.Lists.{allZero}
-use Rattle.record.specs.declared.Record.{Record}
-use Rattle.record.specs.declared.Split.{Split}
-use Rattle.record.specs.declared.Outcome.{Outcome}
-use Rattle.record.specs.Split.{notBegun}
-use Rattle.record.specs.Record.{heldOf, heldBytes, sound, isBegun, withSplit, recordOf}
-use Rattle.record.specs.Arrays.{Arrays}
-use Rattle.buffers.proofs.Lists.{all-zero, filled-zero}
-use Rattle.record.proofs.Sound.{chain-below}
-use Rattle.record.proofs.Begun.{one-begun-sound, with-sound}
-use Rattle.record.proofs.Strings.{held-record, record-idle}
-use Rattle.rewind.specs.Rewind.{keepsTooMuch, reached, cutCall}
-use Rattle.rewind.proofs.Lengths.{OnBlock, keeps-few}
-use Rattle.split_rewind.specs.Begin.{begun}
-use Rattle.split_rewind.specs.HandBack.{handedBack}
-use Rattle.split_rewind.specs.End.{lastBytes, endCut}
-use Rattle.split_rewind.specs.OneRewind.{answeredOn}
-use Rattle.split_rewind.proofs.Lengths.{before-is, blocks-on}
-use Rattle.split_rewind.proofs.OneRewind.{Handed, end-cut-is, same-cut}
+use Rattle.limits.specs.Limits.{longestBlock, isDigestLength}
+use Rattle.limits.proofs.Limits.{block-most}
+use Rattle.lists.proofs.Zeros.{filled-length}
+use Rattle.lists.specs.ZeroFilled.{zeroFilled}
+use Rattle.lists.specs.Equal.{equal}
+use Rattle.lists.proofs.Equal.{equal-self}
+use Rattle.lists.specs.Lists.{allZero}
+use Rattle.orders.specs.declared.Record.{Record}
+use Rattle.orders.specs.declared.Split.{Split}
+use Rattle.orders.specs.declared.Outcome.{Outcome}
+use Rattle.orders.specs.Split.{notBegun}
+use Rattle.orders.specs.Record.{heldOf, heldBytes, sound, isBegun, withSplit, recordOf}
+use Rattle.orders.specs.Arrays.{Arrays}
+use Rattle.lists.proofs.Lists.{all-zero, filled-zero}
+use Rattle.orders.proofs.Sound.{chain-below}
+use Rattle.orders.proofs.Begun.{one-begun-sound, with-sound}
+use Rattle.orders.proofs.Strings.{held-record, record-idle}
+use Rattle.orders.specs.Rewind.{keepsTooMuch, reached, cutCall}
+use Rattle.orders.proofs.Lengths.{OnBlock, keeps-few}
+use Rattle.orders.specs.Begin.{begun}
+use Rattle.orders.specs.HandBack.{handedBack}
+use Rattle.orders.specs.End.{lastBytes, endCut}
+use Rattle.orders.specs.OneRewind.{answeredOn}
+use Rattle.orders.proofs.HandBacks.{before-is, blocks-on}
+use Rattle.orders.proofs.OneRewind.{Handed, end-cut-is, same-cut}
 use Rattle.tape.specs.Tape.{wholeBlocks}
 use Rattle.tape.specs.TapeRecord.{blockAfter, handedLast, tapeSplit}
 use Rattle.tape.proofs.Records.{WithinLimit, sound-is, reached-is, last-bytes, cut-next}

@@ -7,17 +7,17 @@ use native.Mathlib.Omega.{arith}
 use lib.ListN.{length, take, drop}
 use Rattle.lsh.specs.Hash.{hash, lsh}
 use Rattle.answers.proofs.Output.{written-is}
-use Rattle.finalization.specs.Receipt.{receiptBytes, receipt}
-use Rattle.finalization.specs.Ending.{messageBits, mostBits}
-use Rattle.finalization.proofs.Ending.{message-length}
-use Rattle.record.specs.declared.Record.{Record}
-use Rattle.record.proofs.Sound.{sounds}
-use Rattle.whole.specs.Whole.{wholeAnswer, wholeOutput}
-use Rattle.whole.proofs.Answers as whole-answers
-use Rattle.close.specs.Close.{closeAnswer, closedDigest, closeOutput}
-use Rattle.close.proofs.Answers as close-answers
-use Rattle.same.specs.Written.{Written}
-use Rattle.same.proofs.Written.{at-front-of, digest-long}
+use Rattle.receipts.specs.Receipt.{receiptBytes, receipt}
+use Rattle.receipts.specs.Ending.{messageBits, mostBits}
+use Rattle.receipts.proofs.Ending.{message-length}
+use Rattle.orders.specs.declared.Record.{Record}
+use Rattle.orders.proofs.Sound.{sounds}
+use Rattle.receipts.specs.Whole.{wholeAnswer, wholeOutput}
+use Rattle.receipts.proofs.WholeAnswers as whole-answers
+use Rattle.receipts.specs.Close.{closeAnswer, closedDigest, closeOutput}
+use Rattle.receipts.proofs.CloseAnswers as close-answers
+use Rattle.receipts.specs.Written.{Written}
+use Rattle.receipts.proofs.Written.{at-front-of, digest-long}
 
 pub whole-written : (w n : ℕ) (m : List ℕ) (last e : ℕ) (output : List ℕ) → wholeAnswer w n (length m) last e (length output) ≡ 0
     → Written w n (lsh w n (messageBits m last e)) (length (messageBits m last e)) (take receiptBytes (wholeOutput w n m last e output))

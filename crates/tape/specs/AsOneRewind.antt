@@ -3,12 +3,12 @@
 use mathlib.Core.Path.{_≡_}
 use mathlib.Core.List.{List}
 use Prim.Native.Nat.{ℕ}
-use Rattle.record.specs.declared.Record.{Record}
-use Rattle.rewind.specs.Rewind.{rewindCall}
-use Rattle.split_rewind.specs.End.{endCall}
-use Rattle.split_rewind.specs.OneRewind.{afterSteps, answeredOn, joined}
-use Rattle.rewind_roll.specs.RewindRoll.{rewindRollCall, rewoundRoll}
-use Rattle.rewind_roll.specs.EndRoll.{endRollCall, endedRoll}
+use Rattle.orders.specs.declared.Record.{Record}
+use Rattle.orders.specs.Rewind.{rewindCall}
+use Rattle.orders.specs.End.{endCall}
+use Rattle.orders.specs.OneRewind.{afterSteps, answeredOn, joined}
+use Rattle.checkpoints.specs.RewindRoll.{rewindRollCall, rewoundRoll}
+use Rattle.checkpoints.specs.EndRoll.{endRollCall, endedRoll}
 
 -- the record, the count or the refusal, and the roll; a refused end returns the record after the steps
 pub record AsOneRewind (r : Record) (h : List ℕ) (bs : List (List ℕ)) (keep : ℕ) : Type 0 where

@@ -7,17 +7,17 @@ use lib.ListN.{length, drop}
 use Rattle.lsh.specs.WordSize.{sizeOf}
 use Rattle.lsh.specs.Padding.{restOf}
 use Rattle.lsh.specs.ByteString.{ByteString}
-use Rattle.record.specs.declared.Record.{Record}
-use Rattle.record.specs.declared.Outcome.{Outcome}
-use Rattle.append.specs.Append.{appendCall}
-use Rattle.rewind.specs.Rewind.{rewindCall}
-use Rattle.split_rewind.specs.Begin.{beginCall}
-use Rattle.split_rewind.specs.HandBack.{handBackCall}
-use Rattle.split_rewind.specs.End.{endCall}
-use Rattle.split_rewind.specs.Abandon.{abandonCall}
-use Rattle.append_roll.specs.AppendRoll.{appendRollCall, appendedRoll}
-use Rattle.rewind_roll.specs.RewindRoll.{rewindRollCall, rewoundRoll}
-use Rattle.rewind_roll.specs.EndRoll.{endRollCall, endedRoll}
+use Rattle.orders.specs.declared.Record.{Record}
+use Rattle.orders.specs.declared.Outcome.{Outcome}
+use Rattle.orders.specs.Append.{appendCall}
+use Rattle.orders.specs.Rewind.{rewindCall}
+use Rattle.orders.specs.Begin.{beginCall}
+use Rattle.orders.specs.HandBack.{handBackCall}
+use Rattle.orders.specs.End.{endCall}
+use Rattle.orders.specs.Abandon.{abandonCall}
+use Rattle.checkpoints.specs.AppendRoll.{appendRollCall, appendedRoll}
+use Rattle.checkpoints.specs.RewindRoll.{rewindRollCall, rewoundRoll}
+use Rattle.checkpoints.specs.EndRoll.{endRollCall, endedRoll}
 use Rattle.tape.specs.Sequence.{Answer, Given}
 use Rattle.tape.specs.Tape.{Lent, byLent, Tape, wholeBlocks, tapeAppend, tapeRewind, tapeBegin, tapeHandBack, tapeEnd, tapeAbandon}
 use Rattle.tape.specs.TapeRecord.{blockAfter}

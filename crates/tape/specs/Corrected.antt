@@ -4,7 +4,7 @@
 use mathlib.Core.Path.{_≡_}
 use mathlib.Core.List.{List, []}
 use Prim.Native.Nat.{ℕ, _+_}
-use Rattle.record.specs.Open.{openCall}
+use Rattle.orders.specs.Open.{openCall}
 use Rattle.tape.specs.Sequence.{sum}
 use Rattle.tape.specs.Tape.{Lent, wholeBlocks}
 use Rattle.tape.specs.Calls.{Call, forwardCount, backwardCount}

@@ -3,10 +3,10 @@
 use mathlib.Core.Path.{_≡_}
 use mathlib.Core.List.{List, []}
 use Prim.Native.Nat.{ℕ, _+_}
-use Rattle.record.specs.declared.Outcome.{Outcome}
-use Rattle.record.specs.Open.{openCall}
-use Rattle.hmac.specs.Hmac.{innerKey}
-use Rattle.tag.specs.Start.{startCall}
+use Rattle.orders.specs.declared.Outcome.{Outcome}
+use Rattle.orders.specs.Open.{openCall}
+use Rattle.tags.specs.Hmac.{innerKey}
+use Rattle.tags.specs.Start.{startCall}
 use Rattle.tape.specs.Sequence.{sum}
 use Rattle.tape.specs.Tape.{Lent, wholeBlocks}
 use Rattle.tape.specs.Calls.{Call, forwardCount, backwardCount}

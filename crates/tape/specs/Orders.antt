@@ -4,7 +4,7 @@
 use mathlib.Core.Path.{_≡_}
 use mathlib.Core.List.{List}
 use Prim.Native.Nat.{ℕ}
-use Rattle.record.specs.declared.Record.{Record}
+use Rattle.orders.specs.declared.Record.{Record}
 use Rattle.tape.specs.Sequence.{Answer, after, answers, Throughout}
 use Rattle.tape.specs.Tape.{Lent, Tape, plain}
 use Rattle.tape.specs.TapeRecord.{tapeRecord}

@@ -5,9 +5,9 @@ use mathlib.Core.List.{List}
 use Prim.Native.Nat.{ℕ, _-_, _*_}
 use lib.ListN.{take, drop}
 use Rattle.lsh.specs.WordSize.{sizeOf, blockBytes}
-use Rattle.record.specs.declared.Outcome.{Outcome}
-use Rattle.record.specs.Record.{recordOf, recordAt}
-use Rattle.append.specs.Append.{appendCall}
+use Rattle.orders.specs.declared.Outcome.{Outcome}
+use Rattle.orders.specs.Record.{recordOf, recordAt}
+use Rattle.orders.specs.Append.{appendCall}
 use Rattle.tape.specs.Tape.{wholeBlocks}
 
 -- t is the chain of the checkpoint after k blocks of an order with the bytes s: the record made of it is that of the order's first k blocks, and with the

@@ -8,7 +8,7 @@ use Prim.Native.Nat.{ℕ, _+_, _-_, _*_, _/_, _%_, _≤_}
 use lib.Dec.{eqb, ltb, leb}
 use lib.ListN.{length, take}
 use Rattle.lsh.specs.WordSize.{sizeOf, blockBytes}
-use Rattle.runs.specs.Limits.{limit}
+use Rattle.limits.specs.Limits.{limit}
 use Rattle.checkpoints.specs.Due.{spacing}
 use Rattle.checkpoints.specs.Slots.{mostSlots}
 use Rattle.tape.specs.Sequence.{Given}

@@ -8,10 +8,10 @@ use lib.ListN.{take, drop}
 use Rattle.lsh.specs.WordSize.{sizeOf, blockBytes}
 use Rattle.lsh.specs.Opening.{opening}
 use Rattle.lsh.specs.Chains.{chainAfter}
-use Rattle.record.specs.declared.Record.{Record}
-use Rattle.record.specs.declared.Split.{Split}
-use Rattle.record.specs.Split.{notBegun}
-use Rattle.record.specs.Record.{heldOf, withSplit, recordOf}
+use Rattle.orders.specs.declared.Record.{Record}
+use Rattle.orders.specs.declared.Split.{Split}
+use Rattle.orders.specs.Split.{notBegun}
+use Rattle.orders.specs.Record.{heldOf, withSplit, recordOf}
 use Rattle.tape.specs.Tape.{Tape, wholeBlocks}
 
 -- the tape's block after the first m

@@ -8,7 +8,7 @@ use lib.ListN.{length}
 use Rattle.lsh.specs.WordSize.{sizeOf}
 use Rattle.lsh.specs.Opening.{opening}
 use Rattle.lsh.specs.Chains.{chainAfter}
-use Rattle.record.specs.Record.{recordOf}
+use Rattle.orders.specs.Record.{recordOf}
 use Rattle.checkpoints.specs.Due.{Checkpoint, checkpointsAt, dueNumbers}
 use Rattle.checkpoints.specs.Slots.{rollBytes}
 use Rattle.checkpoints.specs.Roll.{newRoll, shown, isRollOf}

@@ -1,7 +1,7 @@
 // Whole: the receipt of one message.
 ghost use mathlib.Core.Path.{_≡_};
 ghost use lib.ListN.{length};
-ghost use Rattle.whole.specs.Whole.{wholeAnswer, wholeOutput};
+ghost use Rattle.receipts.specs.Whole.{wholeAnswer, wholeOutput};
 
 // Writes the receipt of the message and the top e bits of its last byte, if the answer is 0.
 pub fn whole(w: u64, n: u64, message: &[u8], last: u8, e: u64, output: &mut [u8]) -> u32
@@ -28,7 +28,7 @@ fn answer(w: u64, n: u64, len: usize, last: u8, e: u64, size: usize) -> u32
     if !runs::is_digest_length(w, n) {
         return 2;
     }
-    if runs::LIMIT < len {
+    if limits::LIMIT < len {
         return 5;
     }
     finalization::end_answer(last, e, size)

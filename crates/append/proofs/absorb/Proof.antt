@@ -7,8 +7,8 @@ use mir.Val.{Fits}
 use lib.ListN.{length}
 use borrow.Author.Needs.{needs}
 use Rattle.runs.proofs.Rest.{inside, rest-is, rest-short}
-use Rattle.record.specs.Record.{heldOf}
-use Rattle.runs.proofs.Limits.{block-most}
+use Rattle.orders.specs.Record.{heldOf}
+use Rattle.limits.proofs.Limits.{block-most}
 use Rattle.append.proofs.absorb.Statement.{statement}
 use Rattle.append.proofs.absorb.Tie as tie
 

@@ -4,7 +4,7 @@ use native.Mathlib.Nat.{mod-le}
 use native.Mathlib.Omega.{arith}
 use borrow.Author.Needs.{needs}
 use Rattle.lsh.specs.WordSize.{sizeOf, blockBytes}
-use Rattle.runs.specs.Limits.{limit}
+use Rattle.limits.specs.Limits.{limit}
 use Rattle.append.proofs.accepted.Statement.{statement}
 use Rattle.append.proofs.accepted.Tie as tie
 

@@ -6,11 +6,11 @@ use native.Mathlib.Omega.{arith}
 use lib.ListN.{length}
 use borrow.Author.Needs.{needs}
 use borrow.Author.Tests.{lt-ltb, le-ltb}
-use Rattle.runs.specs.Limits.{limit}
-use Rattle.record.specs.Record.{sound, isBegun}
-use Rattle.record.proofs.Sound.{Sound, sounds}
-use Rattle.record.proofs.InTurn.{turn-refused, turn-passed, in-turn}
-use Rattle.append.specs.Append.{appendCall}
+use Rattle.limits.specs.Limits.{limit}
+use Rattle.orders.specs.Record.{sound, isBegun}
+use Rattle.orders.proofs.Sound.{Sound, sounds}
+use Rattle.orders.proofs.InTurn.{turn-refused, turn-passed, in-turn}
+use Rattle.orders.specs.Append.{appendCall}
 use Rattle.append.proofs.append.Statement.{statement}
 use Rattle.append.proofs.append.Tie as tie
 

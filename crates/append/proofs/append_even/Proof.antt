@@ -3,8 +3,8 @@ use mathlib.Core.Path.{_≡_, sym}
 use native.Mathlib.Omega.{arith}
 use lib.ListN.{length}
 use borrow.Author.Needs.{needs}
-use Rattle.runs.specs.Limits.{longestBlock, limit}
-use Rattle.record.proofs.Sound.{sounds, chain-is}
+use Rattle.limits.specs.Limits.{longestBlock, limit}
+use Rattle.orders.proofs.Sound.{sounds, chain-is}
 use Rattle.append.proofs.Appending.{even}
 use Rattle.append.proofs.append_even.Statement.{statement}
 use Rattle.append.proofs.append_even.Tie as tie

@@ -11,12 +11,12 @@ use Rattle.lsh.specs.WordSize.{sizeOf, blockBytes}
 use Rattle.lsh.specs.Block.{Chain}
 use Rattle.lsh.proofs.Figures.{amounts}
 use Rattle.lsh.proofs.Blocks.{forwards-chain}
-use Rattle.runs.specs.Limits.{longestBlock, limit}
-use Rattle.runs.proofs.Limits.{block-most}
+use Rattle.limits.specs.Limits.{longestBlock, limit}
+use Rattle.limits.proofs.Limits.{block-most}
 use Rattle.runs.proofs.Rest.{from-place}
-use Rattle.record.specs.declared.Record.{Record}
-use Rattle.record.proofs.Sound.{Sound, sounds, chain-is}
-use Rattle.record.proofs.Held.{fill-lt}
+use Rattle.orders.specs.declared.Record.{Record}
+use Rattle.orders.proofs.Sound.{Sound, sounds, chain-is}
+use Rattle.orders.proofs.Held.{fill-lt}
 use Rattle.append.proofs.Appending.{room, first-block, filled}
 use Rattle.append.proofs.append_long.Statement.{statement}
 use Rattle.append.proofs.append_long.Tie as tie

@@ -3,8 +3,8 @@ use mathlib.Core.Path.{_≡_, sym}
 use native.Mathlib.Omega.{arith}
 use lib.ListN.{length}
 use borrow.Author.Needs.{needs}
-use Rattle.runs.specs.Limits.{longestBlock, limit}
-use Rattle.runs.proofs.Limits.{block-most}
+use Rattle.limits.specs.Limits.{longestBlock, limit}
+use Rattle.limits.proofs.Limits.{block-most}
 use Rattle.append.proofs.Appending.{short}
 use Rattle.append.proofs.append_short.Statement.{statement}
 use Rattle.append.proofs.append_short.Tie as tie

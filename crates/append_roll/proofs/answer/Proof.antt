@@ -9,16 +9,16 @@ use borrow.Author.Needs.{needs}
 use borrow.Author.Tests.{lt-ltb, le-ltb}
 use Rattle.lsh.specs.WordSize.{sizeOf}
 use Rattle.answers.proofs.First.{refused-first, passed-first}
-use Rattle.runs.specs.Limits.{limit}
-use Rattle.record.specs.Record.{isBegun}
-use Rattle.record.proofs.Sound.{Sound, sounds}
+use Rattle.limits.specs.Limits.{limit}
+use Rattle.orders.specs.Record.{isBegun}
+use Rattle.orders.proofs.Sound.{Sound, sounds}
 use Rattle.checkpoints.specs.Roll.{checkpoints, rollAnswer}
 use Rattle.roll.specs.Traversal.{traversalOf}
 use Rattle.checkpoints.proofs.Form.{roll-of}
 use Rattle.checkpoints.proofs.InTurn.{roll-passed}
 use Rattle.roll.proofs.Walked.{traversal-slots}
-use Rattle.append_roll.specs.AppendRoll.{isFull, appendRollAnswer}
-use Rattle.append_roll.proofs.Answers.{full-is}
+use Rattle.checkpoints.specs.AppendRoll.{isFull, appendRollAnswer}
+use Rattle.checkpoints.proofs.AppendAnswers.{full-is}
 use Rattle.append_roll.proofs.answer.Statement.{statement}
 use Rattle.append_roll.proofs.answer.Tie as tie
 

@@ -9,14 +9,14 @@ use lib.Seq.{length-take-le}
 use borrow.Author.Needs.{needs}
 use Rattle.lsh.proofs.Figures.{block-some}
 use Rattle.runs.proofs.Rest.{from-place}
-use Rattle.record.specs.declared.Record.{Record}
-use Rattle.record.specs.Record.{heldOf, sound}
-use Rattle.record.proofs.Sound.{Sound, sounds}
-use Rattle.append.specs.Append.{appended}
+use Rattle.orders.specs.declared.Record.{Record}
+use Rattle.orders.specs.Record.{heldOf, sound}
+use Rattle.orders.proofs.Sound.{Sound, sounds}
+use Rattle.orders.specs.Append.{appended}
 use Rattle.checkpoints.specs.Roll.{checkpoints}
 use Rattle.checkpoints.proofs.Form.{roll-of}
 use Rattle.checkpoints.proofs.Spacing.{step}
-use Rattle.append_roll.proofs.Answers.{Accepted, accepted, goal-of, accepted-call}
+use Rattle.checkpoints.proofs.AppendAnswers.{Accepted, accepted, goal-of, accepted-call}
 use Rattle.append_roll.proofs.Parts.{Entry, inserted-at, due-after, Parted, so-far-sound, none-reached, first-room, first-parted, first-rest, chain-ok, count-few, next-room, parted-more, parted-roll, parted-end, order-there}
 use Rattle.append_roll.proofs.append_parts.Statement.{statement}
 use Rattle.append_roll.proofs.append_parts.Tie as tie

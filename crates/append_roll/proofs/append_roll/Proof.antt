@@ -2,7 +2,7 @@
 use mathlib.Core.Path.{sym, _∙_}
 use borrow.Author.Needs.{needs}
 use Rattle.checkpoints.proofs.Members.{free-choice}
-use Rattle.append_roll.proofs.Answers.{refused-call, accepted-call}
+use Rattle.checkpoints.proofs.AppendAnswers.{refused-call, accepted-call}
 use Rattle.append_roll.proofs.append_roll.Statement.{statement}
 use Rattle.append_roll.proofs.append_roll.Tie as tie
 

@@ -1,7 +1,7 @@
 -- `append_roll::between_checkpoints` visits its contract. Assumes nothing.
 use native.Mathlib.Omega.{arith}
 use borrow.Author.Needs.{needs}
-use Rattle.runs.proofs.Limits.{block-most}
+use Rattle.limits.proofs.Limits.{block-most}
 use Rattle.append_roll.proofs.between_checkpoints.Statement.{statement}
 use Rattle.append_roll.proofs.between_checkpoints.Tie as tie
 

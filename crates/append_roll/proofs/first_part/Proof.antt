@@ -5,12 +5,12 @@ use lib.ListN.{length}
 use borrow.Author.Needs.{needs}
 use Rattle.lsh.specs.WordSize.{sizeOf}
 use Rattle.lsh.specs.Block.{Chain}
-use Rattle.runs.specs.Limits.{longestBlock}
-use Rattle.record.specs.declared.Record.{Record}
-use Rattle.record.specs.declared.Outcome.{Outcome}
-use Rattle.record.proofs.Sound.{sounds}
-use Rattle.append.specs.Append.{appended, appendAccepted}
-use Rattle.append.proofs.Sound.{appended-chain}
+use Rattle.limits.specs.Limits.{longestBlock}
+use Rattle.orders.specs.declared.Record.{Record}
+use Rattle.orders.specs.declared.Outcome.{Outcome}
+use Rattle.orders.proofs.Sound.{sounds}
+use Rattle.orders.specs.Append.{appended, appendAccepted}
+use Rattle.orders.proofs.AppendedSound.{appended-chain}
 use Rattle.checkpoints.specs.Checkpoints.{inserted}
 use Rattle.roll.proofs.Walked.{traversal-count, traversal-slots}
 use Rattle.append_roll.proofs.first_part.Statement.{statement}

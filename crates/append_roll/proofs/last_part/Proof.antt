@@ -5,12 +5,12 @@ use Prim.Native.Nat.{ℕ, _+_}
 use native.Mathlib.Omega.{arith}
 use lib.ListN.{replicate}
 use borrow.Author.Needs.{needs}
-use Rattle.runs.specs.Limits.{longestBlock, limit}
-use Rattle.record.specs.declared.Record.{Record}
-use Rattle.record.specs.declared.Outcome.{Outcome}
-use Rattle.record.specs.Record.{heldOf}
-use Rattle.append.specs.Append.{appendAccepted}
-use Rattle.append_roll.proofs.Answers.{few-blocks}
+use Rattle.limits.specs.Limits.{longestBlock, limit}
+use Rattle.orders.specs.declared.Record.{Record}
+use Rattle.orders.specs.declared.Outcome.{Outcome}
+use Rattle.orders.specs.Record.{heldOf}
+use Rattle.orders.specs.Append.{appendAccepted}
+use Rattle.checkpoints.proofs.AppendAnswers.{few-blocks}
 use Rattle.append_roll.proofs.last_part.Statement.{statement}
 use Rattle.append_roll.proofs.last_part.Tie as tie
 

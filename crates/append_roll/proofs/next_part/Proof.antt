@@ -8,7 +8,7 @@ use Rattle.lsh.specs.WordSize.{sizeOf, blockBytes}
 use Rattle.lsh.specs.Block.{Chain}
 use Rattle.lsh.proofs.Figures.{amounts}
 use Rattle.lsh.proofs.Blocks.{forwards-chain}
-use Rattle.runs.specs.Limits.{limit}
+use Rattle.limits.specs.Limits.{limit}
 use Rattle.roll.proofs.Walked.{traversal-count, traversal-slots}
 use Rattle.append_roll.proofs.next_part.Statement.{statement}
 use Rattle.append_roll.proofs.next_part.Tie as tie

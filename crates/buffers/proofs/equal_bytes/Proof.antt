@@ -3,7 +3,7 @@ use mathlib.Core.Path.{_≡_, refl, sym}
 use Prim.Native.Nat.{_-_}
 use native.Mathlib.Omega.{arith}
 use lib.ListN.{length}
-use Rattle.buffers.proofs.Equal.{equal-length, Tested, tested-more, tested-all}
+use Rattle.lists.proofs.Equal.{equal-length, Tested, tested-more, tested-all}
 use Rattle.buffers.proofs.equal_bytes.Statement.{statement}
 use Rattle.buffers.proofs.equal_bytes.Tie as tie
 

@@ -4,7 +4,7 @@ use Prim.Native.Nat.{_-_}
 use native.Mathlib.Omega.{arith}
 use lib.ListN.{length}
 use borrow.Author.Needs.{needs}
-use Rattle.buffers.proofs.Equal.{Tested, tested-more, tested-all}
+use Rattle.lists.proofs.Equal.{Tested, tested-more, tested-all}
 use Rattle.buffers.proofs.equal_chains.Statement.{statement}
 use Rattle.buffers.proofs.equal_chains.Tie as tie
 

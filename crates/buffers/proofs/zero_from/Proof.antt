@@ -3,7 +3,7 @@ use mathlib.Core.Path.{refl}
 use Prim.Native.Nat.{_-_}
 use native.Mathlib.Omega.{arith}
 use lib.ListN.{length}
-use Rattle.buffers.proofs.Lists.{Zeros, zeros-more, zeros-all}
+use Rattle.lists.proofs.Lists.{Zeros, zeros-more, zeros-all}
 use Rattle.buffers.proofs.zero_from.Statement.{statement}
 use Rattle.buffers.proofs.zero_from.Tie as tie
 

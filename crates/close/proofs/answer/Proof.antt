@@ -2,7 +2,7 @@
 use mathlib.Core.Path.{sym, _∙_}
 use borrow.Author.Needs.{needs}
 use borrow.Author.Tests.{not-true, not-false}
-use Rattle.close.specs.Close.{closeAnswer}
+use Rattle.receipts.specs.Close.{closeAnswer}
 use Rattle.close.proofs.answer.Statement.{statement}
 use Rattle.close.proofs.answer.Tie as tie
 

@@ -6,13 +6,13 @@ use Prim.Native.Nat.{_+_, _*_}
 use native.Mathlib.Omega.{arith}
 use lib.ListN.{length}
 use borrow.Author.Needs.{needs}
-use Rattle.runs.specs.Limits.{limit}
-use Rattle.record.proofs.Sound.{Sound, sounds}
-use Rattle.runs.proofs.Limits.{digest-most}
+use Rattle.limits.specs.Limits.{limit}
+use Rattle.orders.proofs.Sound.{Sound, sounds}
+use Rattle.limits.proofs.Limits.{digest-most}
 use Rattle.answers.proofs.Output.{refused-output, written-output}
-use Rattle.finalization.specs.Receipt.{receipt}
-use Rattle.close.specs.Close.{closeOutput}
-use Rattle.close.proofs.Answers.{Accepted, accepted}
+use Rattle.receipts.specs.Receipt.{receipt}
+use Rattle.receipts.specs.Close.{closeOutput}
+use Rattle.receipts.proofs.CloseAnswers.{Accepted, accepted}
 use Rattle.close.proofs.close.Statement.{statement}
 use Rattle.close.proofs.close.Tie as tie
 

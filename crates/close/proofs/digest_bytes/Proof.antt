@@ -2,8 +2,8 @@
 use mathlib.Core.Path.{refl, ap, _∙_}
 use native.Mathlib.Omega.{arith}
 use Rattle.lsh.specs.Bits.{bytesOfBits}
-use Rattle.runs.proofs.Limits.{digest-most}
-use Rattle.record.proofs.Sound.{sounds}
+use Rattle.limits.proofs.Limits.{digest-most}
+use Rattle.orders.proofs.Sound.{sounds}
 use Rattle.close.proofs.digest_bytes.Statement.{statement}
 use Rattle.close.proofs.digest_bytes.Tie as tie
 

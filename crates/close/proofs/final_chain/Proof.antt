@@ -6,10 +6,10 @@ use lib.Seq.{length-take-le}
 use mir.Syntax.{w8}
 use mir.Val.{Fits}
 use borrow.Author.Needs.{needs}
-use Rattle.runs.specs.Limits.{longestBlock}
-use Rattle.record.specs.Record.{heldLength, heldBytes}
-use Rattle.record.proofs.Sound.{sounds}
-use Rattle.record.proofs.Held.{fill-in}
+use Rattle.limits.specs.Limits.{longestBlock}
+use Rattle.orders.specs.Record.{heldLength, heldBytes}
+use Rattle.orders.proofs.Sound.{sounds}
+use Rattle.orders.proofs.Held.{fill-in}
 use Rattle.finalization.proofs.MessageChain.{run-chain}
 use Rattle.close.proofs.HeldBytes.{chain-sound, held-short}
 use Rattle.close.proofs.Closed.{closed-is}

@@ -7,8 +7,8 @@ use lib.ListN.{length, set, take}
 use borrow.Author.Needs.{needs}
 use Rattle.lsh.specs.Tabulate.{at}
 use Rattle.lsh.proofs.Figures.{word-most}
-use Rattle.runs.specs.Limits.{longestBlock}
-use Rattle.finalization.proofs.Receipts.{cut-front}
+use Rattle.limits.specs.Limits.{longestBlock}
+use Rattle.receipts.proofs.Receipts.{cut-front}
 use Rattle.finalization.proofs.digest_bytes.Statement.{statement}
 use Rattle.finalization.proofs.digest_bytes.Tie as tie
 

@@ -2,8 +2,8 @@
 use mathlib.Core.Path.{sym, _∙_}
 use borrow.Author.Needs.{needs}
 use borrow.Author.Tests.{lt-ltb, le-ltb, eq-eqb, ne-eqb}
-use Rattle.finalization.specs.Receipt.{receiptBytes}
-use Rattle.finalization.specs.Ending.{endAnswer}
+use Rattle.receipts.specs.Receipt.{receiptBytes}
+use Rattle.receipts.specs.Ending.{endAnswer}
 use Rattle.finalization.proofs.end_answer.Statement.{statement}
 use Rattle.finalization.proofs.end_answer.Tie as tie
 

@@ -6,8 +6,8 @@ use lib.ListN.{length, length-replicate}
 use lib.Seq.{length-take-le}
 use borrow.Author.Needs.{needs}
 use Rattle.lsh.specs.WordSize.{chainBytes, blockBytes}
-use Rattle.runs.proofs.Limits.{block-most}
-use Rattle.finalization.proofs.FinalBytes.{words-chain, front-is-final}
+use Rattle.limits.proofs.Limits.{block-most}
+use Rattle.receipts.proofs.FinalBytes.{words-chain, front-is-final}
 use Rattle.finalization.proofs.final_bytes.Statement.{statement}
 use Rattle.finalization.proofs.final_bytes.Tie as tie
 

@@ -2,7 +2,7 @@
 use native.Mathlib.Omega.{arith}
 use lib.ListN.{length}
 use borrow.Author.Needs.{needs}
-use Rattle.runs.specs.Limits.{longestBlock}
+use Rattle.limits.specs.Limits.{longestBlock}
 use Rattle.finalization.proofs.LastBlock.{stored-block}
 use Rattle.finalization.proofs.last_block.Statement.{statement}
 use Rattle.finalization.proofs.last_block.Tie as tie

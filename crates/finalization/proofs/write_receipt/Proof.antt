@@ -7,9 +7,9 @@ use lib.ListN.{length, take, drop, replicate, length-set, length-append, length-
 use lib.Seq.{length-take-le, length-sets}
 use borrow.Author.Needs.{needs}
 use Rattle.lsh.proofs.Figures.{word-most}
-use Rattle.runs.specs.Limits.{longestBlock, longestDigest}
-use Rattle.finalization.specs.Receipt.{receiptBytes}
-use Rattle.finalization.proofs.Receipts.{written}
+use Rattle.limits.specs.Limits.{longestBlock, longestDigest}
+use Rattle.receipts.specs.Receipt.{receiptBytes}
+use Rattle.receipts.proofs.Receipts.{written}
 use Rattle.finalization.proofs.write_receipt.Statement.{statement}
 use Rattle.finalization.proofs.write_receipt.Tie as tie
 

@@ -4,7 +4,7 @@ use Prim.Native.Nat.{ℕ, _+_, _/_}
 use native.Mathlib.Omega.{arith}
 use lib.ListN.{take}
 use borrow.Author.Needs.{needs}
-use Rattle.runs.proofs.Limits.{digest-most}
+use Rattle.limits.proofs.Limits.{digest-most}
 use Rattle.finalization.proofs.MessageChain.{run-chain}
 use Rattle.hmac.proofs.digest_on.Statement.{statement}
 use Rattle.hmac.proofs.digest_on.Tie as tie

@@ -4,9 +4,9 @@ use native.Mathlib.Omega.{arith}
 use lib.ListN.{length}
 use lib.Seq.{length-take-le}
 use borrow.Author.Needs.{needs}
-use Rattle.runs.specs.Limits.{longestBlock}
-use Rattle.runs.proofs.Limits.{digest-most, digest-longest}
-use Rattle.hmac.specs.Hmac.{innerKey, outerKey, tagOf, hmac}
+use Rattle.limits.specs.Limits.{longestBlock}
+use Rattle.limits.proofs.Limits.{digest-most, digest-longest}
+use Rattle.tags.specs.Hmac.{innerKey, outerKey, tagOf, hmac}
 use Rattle.hmac.proofs.hmac.Statement.{statement}
 use Rattle.hmac.proofs.hmac.Tie as tie
 

@@ -7,12 +7,12 @@ use lib.ListN.{length, take}
 use lib.Seq.{length-take-le}
 use borrow.Author.Needs.{needs}
 use Rattle.lsh.specs.WordSize.{sizeOf, blockBytes}
-use Rattle.runs.specs.Limits.{longestBlock}
-use Rattle.buffers.specs.ZeroFilled.{zeroFilled}
-use Rattle.runs.proofs.Limits.{block-most, digest-longest}
+use Rattle.limits.specs.Limits.{longestBlock}
+use Rattle.lists.specs.ZeroFilled.{zeroFilled}
+use Rattle.limits.proofs.Limits.{block-most, digest-longest}
 use Rattle.finalization.proofs.MessageChain.{opened-chain}
-use Rattle.hmac.proofs.Digests.{digestOn, hash-is}
-use Rattle.hmac.proofs.Keys.{digest-short, filled-front, long-key, short-key}
+use Rattle.tags.proofs.Digests.{digestOn, hash-is}
+use Rattle.tags.proofs.Keys.{digest-short, filled-front, long-key, short-key}
 use Rattle.hmac.proofs.key_block.Statement.{statement}
 use Rattle.hmac.proofs.key_block.Tie as tie
 

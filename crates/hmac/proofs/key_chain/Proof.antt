@@ -9,9 +9,9 @@ use borrow.Author.Needs.{needs}
 use Rattle.lsh.specs.WordSize.{sizeOf}
 use Rattle.lsh.specs.Block.{forwards}
 use Rattle.lsh.specs.Padding.{blocksOf}
-use Rattle.runs.specs.Limits.{longestBlock}
-use Rattle.runs.proofs.Limits.{block-most}
-use Rattle.hmac.proofs.Keys.{xored-front}
+use Rattle.limits.specs.Limits.{longestBlock}
+use Rattle.limits.proofs.Limits.{block-most}
+use Rattle.tags.proofs.Keys.{xored-front}
 use Rattle.hmac.proofs.key_chain.Statement.{statement}
 use Rattle.hmac.proofs.key_chain.Tie as tie
 

@@ -5,10 +5,10 @@ use lib.ListN.{length, take}
 use lib.Seq.{length-take-le}
 use borrow.Author.Needs.{needs}
 use Rattle.lsh.specs.WordSize.{sizeOf, blockBytes}
-use Rattle.runs.specs.Limits.{longestBlock}
-use Rattle.runs.proofs.Limits.{block-most}
+use Rattle.limits.specs.Limits.{longestBlock}
+use Rattle.limits.proofs.Limits.{block-most}
 use Rattle.finalization.proofs.MessageChain.{opened-chain, run-chain}
-use Rattle.hmac.proofs.Keys.{keyed-hash}
+use Rattle.tags.proofs.Keys.{keyed-hash}
 use Rattle.hmac.proofs.keyed_digest.Statement.{statement}
 use Rattle.hmac.proofs.keyed_digest.Tie as tie
 

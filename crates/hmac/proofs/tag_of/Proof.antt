@@ -1,8 +1,8 @@
 -- `hmac::tag_of` meets its contract. Assumes nothing.
 use mathlib.Core.Path.{_∙_}
 use borrow.Author.Needs.{needs}
-use Rattle.runs.proofs.Limits.{digest-most}
-use Rattle.hmac.specs.Hmac.{outerKey, tagOf}
+use Rattle.limits.proofs.Limits.{digest-most}
+use Rattle.tags.specs.Hmac.{outerKey, tagOf}
 use Rattle.hmac.proofs.tag_of.Statement.{statement}
 use Rattle.hmac.proofs.tag_of.Tie as tie
 

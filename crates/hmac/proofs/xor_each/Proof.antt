@@ -11,8 +11,8 @@ use Rattle.lsh.specs.Tabulate.{at}
 use Rattle.lsh.specs.Word.{xor}
 use Rattle.loops.proofs.Machine.{xor-is}
 use Rattle.loops.proofs.Places.{Placed, placed-none, filled-more, filled-all}
-use Rattle.runs.specs.Limits.{longestBlock}
-use Rattle.hmac.specs.Hmac.{xorEach}
+use Rattle.limits.specs.Limits.{longestBlock}
+use Rattle.tags.specs.Hmac.{xorEach}
 use Rattle.hmac.proofs.xor_each.Statement.{statement}
 use Rattle.hmac.proofs.xor_each.Tie as tie
 

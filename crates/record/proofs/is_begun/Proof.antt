@@ -1,6 +1,6 @@
 -- `record::is_begun` meets its contract. Assumes nothing.
 use mathlib.Core.Path.{refl}
-use Rattle.record.specs.Record.{isBegun}
+use Rattle.orders.specs.Record.{isBegun}
 use Rattle.record.proofs.is_begun.Statement.{statement}
 use Rattle.record.proofs.is_begun.Tie as tie
 

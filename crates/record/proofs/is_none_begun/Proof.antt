@@ -1,6 +1,6 @@
 -- `record::is_none_begun` meets its contract. Assumes nothing.
 use borrow.Author.Needs.{needs}
-use Rattle.record.specs.Split.{noneBegun}
+use Rattle.orders.specs.Split.{noneBegun}
 use Rattle.record.proofs.is_none_begun.Statement.{statement}
 use Rattle.record.proofs.is_none_begun.Tie as tie
 

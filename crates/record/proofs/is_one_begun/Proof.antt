@@ -1,7 +1,7 @@
 -- `record::is_one_begun` meets its contract. Assumes nothing.
 use borrow.Author.Needs.{needs}
 use Rattle.lsh.proofs.Figures.{block-some}
-use Rattle.record.specs.Split.{oneBegun}
+use Rattle.orders.specs.Split.{oneBegun}
 use Rattle.record.proofs.is_one_begun.Statement.{statement}
 use Rattle.record.proofs.is_one_begun.Tie as tie
 

@@ -5,9 +5,9 @@ use lib.Dec.{leb}
 use borrow.Author.Needs.{needs}
 use borrow.Author.Tests.{not-true, not-false, le-leb, lt-leb}
 use Rattle.lsh.specs.WordSize.{isWordSize}
-use Rattle.runs.specs.Limits.{isDigestLength, limit}
-use Rattle.record.specs.declared.Record.{Record}
-use Rattle.record.specs.Record.{sound}
+use Rattle.limits.specs.Limits.{isDigestLength, limit}
+use Rattle.orders.specs.declared.Record.{Record}
+use Rattle.orders.specs.Record.{sound}
 use Rattle.record.proofs.is_sound.Statement.{statement}
 use Rattle.record.proofs.is_sound.Tie as tie
 

@@ -4,7 +4,7 @@ use Prim.Native.Nat.{ℕ}
 use lib.Dec.{eqb}
 use borrow.Author.Needs.{needs}
 use borrow.Author.Tests.{ne-eqb}
-use Rattle.record.proofs.Begun.{unless-one, unless-none}
+use Rattle.orders.proofs.Begun.{unless-one, unless-none}
 use Rattle.record.proofs.is_split_sound.Statement.{statement}
 use Rattle.record.proofs.is_split_sound.Tie as tie
 

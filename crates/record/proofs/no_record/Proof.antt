@@ -1,6 +1,6 @@
 -- `record::no_record` meets its contract. Assumes nothing.
 use borrow.Author.Needs.{needs}
-use Rattle.record.specs.Record.{zeros}
+use Rattle.orders.specs.Record.{zeros}
 use Rattle.record.proofs.no_record.Statement.{statement}
 use Rattle.record.proofs.no_record.Tie as tie
 

@@ -1,6 +1,6 @@
 -- `record::not_begun` meets its contract. Assumes nothing.
 use borrow.Author.Needs.{needs}
-use Rattle.record.specs.Split.{notBegun}
+use Rattle.orders.specs.Split.{notBegun}
 use Rattle.record.proofs.not_begun.Statement.{statement}
 use Rattle.record.proofs.not_begun.Tie as tie
 

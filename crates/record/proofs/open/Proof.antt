@@ -4,8 +4,8 @@ use mathlib.Core.Bool.{true}
 use borrow.Author.Needs.{needs}
 use borrow.Author.Tests.{not-true, not-false}
 use Rattle.lsh.specs.WordSize.{isWordSize}
-use Rattle.runs.specs.Limits.{isDigestLength}
-use Rattle.record.specs.Open.{opened, openCall}
+use Rattle.limits.specs.Limits.{isDigestLength}
+use Rattle.orders.specs.Open.{opened, openCall}
 use Rattle.record.proofs.open.Statement.{statement}
 use Rattle.record.proofs.open.Tie as tie
 

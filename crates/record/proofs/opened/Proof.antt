@@ -1,8 +1,8 @@
 -- `record::opened` meets its contract. Assumes nothing.
 use borrow.Author.Needs.{needs}
-use Rattle.runs.proofs.Limits.{digest-most}
-use Rattle.record.specs.Record.{heldOf}
-use Rattle.record.specs.Open.{opened}
+use Rattle.limits.proofs.Limits.{digest-most}
+use Rattle.orders.specs.Record.{heldOf}
+use Rattle.orders.specs.Open.{opened}
 use Rattle.record.proofs.opened.Statement.{statement}
 use Rattle.record.proofs.opened.Tie as tie
 

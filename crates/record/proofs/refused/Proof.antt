@@ -1,6 +1,6 @@
 -- `record::refused` meets its contract. Assumes nothing.
 use mathlib.Core.Path.{refl}
-use Rattle.record.specs.Record.{refused}
+use Rattle.orders.specs.Record.{refused}
 use Rattle.record.proofs.refused.Statement.{statement}
 use Rattle.record.proofs.refused.Tie as tie
 

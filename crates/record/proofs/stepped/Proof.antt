@@ -1,6 +1,6 @@
 -- `record::stepped` meets its contract. Assumes nothing.
 use mathlib.Core.Path.{refl}
-use Rattle.record.specs.Record.{withSplit, stepped}
+use Rattle.orders.specs.Record.{withSplit, stepped}
 use Rattle.record.proofs.stepped.Statement.{statement}
 use Rattle.record.proofs.stepped.Tie as tie
 

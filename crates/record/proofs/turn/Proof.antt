@@ -3,8 +3,8 @@ use mathlib.Core.Path.{_≡_, sym, _∙_}
 use mathlib.Core.Bool.{true}
 use borrow.Author.Needs.{needs}
 use borrow.Author.Tests.{not-true, not-false}
-use Rattle.record.specs.Record.{sound}
-use Rattle.record.specs.Turn.{turnAnswer}
+use Rattle.orders.specs.Record.{sound}
+use Rattle.orders.specs.Turn.{turnAnswer}
 use Rattle.record.proofs.turn.Statement.{statement}
 use Rattle.record.proofs.turn.Tie as tie
 

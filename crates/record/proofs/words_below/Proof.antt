@@ -10,8 +10,8 @@ use borrow.Author.Needs.{needs}
 use borrow.Author.Tests.{lt-ltb, le-ltb}
 use Rattle.lsh.specs.WordSize.{isWordSize}
 use Rattle.lsh.proofs.Figures.{by-size}
-use Rattle.buffers.specs.Lists.{allBelow}
-use Rattle.buffers.proofs.Lists.{below-at, all-below}
+use Rattle.lists.specs.Lists.{allBelow}
+use Rattle.lists.proofs.Lists.{below-at, all-below}
 use Rattle.record.proofs.words_below.Statement.{statement}
 use Rattle.record.proofs.words_below.Tie as tie
 

@@ -4,7 +4,7 @@ use Prim.Native.Nat.{_-_, _≤_, zero-le}
 use native.Mathlib.Omega.{arith}
 use lib.ListN.{length}
 use borrow.Author.Needs.{needs}
-use Rattle.buffers.proofs.Lists.{Zeros, zeros-more, zeros-all}
+use Rattle.lists.proofs.Lists.{Zeros, zeros-more, zeros-all}
 use Rattle.record.proofs.words_zero.Statement.{statement}
 use Rattle.record.proofs.words_zero.Tie as tie
 

@@ -3,11 +3,11 @@ use mathlib.Core.Path.{sym, _∙_}
 use lib.Seq.{length-take-le}
 use native.Mathlib.Omega.{arith}
 use borrow.Author.Needs.{needs}
-use Rattle.runs.specs.Limits.{limit}
-use Rattle.runs.proofs.Limits.{block-most}
-use Rattle.record.specs.Record.{heldOf}
-use Rattle.record.proofs.Sound.{sounds}
-use Rattle.rewind.specs.Rewind.{openingDiffers, rewound, cutCall}
+use Rattle.limits.specs.Limits.{limit}
+use Rattle.limits.proofs.Limits.{block-most}
+use Rattle.orders.specs.Record.{heldOf}
+use Rattle.orders.proofs.Sound.{sounds}
+use Rattle.orders.specs.Rewind.{openingDiffers, rewound, cutCall}
 use Rattle.rewind.proofs.cut.Statement.{statement}
 use Rattle.rewind.proofs.cut.Tie as tie
 

@@ -6,12 +6,12 @@ use Prim.Native.Nat.{ℕ, _-_, _≤_}
 use lib.ListN.{length}
 use lib.Seq.{length-take-le}
 use borrow.Author.Needs.{needs}
-use Rattle.runs.specs.Limits.{longestBlock}
+use Rattle.limits.specs.Limits.{longestBlock}
 use Rattle.runs.proofs.Rest.{from-place}
-use Rattle.record.specs.declared.Record.{Record}
-use Rattle.record.specs.Record.{heldLength, heldBytes}
-use Rattle.record.proofs.Held.{fill-in}
-use Rattle.rewind.specs.Rewind.{heldDiffers}
+use Rattle.orders.specs.declared.Record.{Record}
+use Rattle.orders.specs.Record.{heldLength, heldBytes}
+use Rattle.orders.proofs.Held.{fill-in}
+use Rattle.orders.specs.Rewind.{heldDiffers}
 use Rattle.rewind.proofs.held_differs.Statement.{statement}
 use Rattle.rewind.proofs.held_differs.Tie as tie
 

@@ -4,7 +4,7 @@ use mathlib.Core.Bool.{false}
 use lib.ListN.{length}
 use borrow.Author.Needs.{needs}
 use Rattle.lsh.specs.WordSize.{sizeOf, blockBytes}
-use Rattle.rewind.specs.Rewind.{startsOffBlock, rewindInTurn}
+use Rattle.orders.specs.Rewind.{startsOffBlock, rewindInTurn}
 use Rattle.rewind.proofs.in_turn.Statement.{statement}
 use Rattle.rewind.proofs.in_turn.Tie as tie
 

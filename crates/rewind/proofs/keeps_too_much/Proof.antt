@@ -1,7 +1,7 @@
 -- `rewind::keeps_too_much` meets its contract. Assumes nothing.
 use borrow.Author.Needs.{needs}
 use borrow.Author.Tests.{lt-ltb, le-ltb}
-use Rattle.rewind.specs.Rewind.{keepsTooMuch}
+use Rattle.orders.specs.Rewind.{keepsTooMuch}
 use Rattle.rewind.proofs.keeps_too_much.Statement.{statement}
 use Rattle.rewind.proofs.keeps_too_much.Tie as tie
 

@@ -3,7 +3,7 @@ use mathlib.Core.Path.{ap, _∙_}
 use mathlib.Core.Bool.{not}
 use borrow.Author.Needs.{needs}
 use borrow.Author.Tests.{eq-eqb, ne-eqb}
-use Rattle.runs.proofs.Limits.{digest-most}
+use Rattle.limits.proofs.Limits.{digest-most}
 use Rattle.rewind.proofs.opening_differs.Statement.{statement}
 use Rattle.rewind.proofs.opening_differs.Tie as tie
 

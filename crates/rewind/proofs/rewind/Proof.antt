@@ -2,9 +2,9 @@
 use mathlib.Core.Path.{_≡_, sym, _∙_}
 use mathlib.Core.Bool.{true, false}
 use borrow.Author.Needs.{needs}
-use Rattle.record.specs.Record.{sound, isBegun}
-use Rattle.record.proofs.InTurn.{turn-refused, turn-passed, in-turn}
-use Rattle.rewind.specs.Rewind.{rewindCall}
+use Rattle.orders.specs.Record.{sound, isBegun}
+use Rattle.orders.proofs.InTurn.{turn-refused, turn-passed, in-turn}
+use Rattle.orders.specs.Rewind.{rewindCall}
 use Rattle.rewind.proofs.rewind.Statement.{statement}
 use Rattle.rewind.proofs.rewind.Tie as tie
 

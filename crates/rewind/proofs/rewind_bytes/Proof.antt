@@ -6,10 +6,10 @@ use lib.ListN.{length}
 use borrow.Author.Needs.{needs}
 use Rattle.lsh.specs.WordSize.{sizeOf, blockBytes}
 use Rattle.lsh.specs.Block.{Chain}
-use Rattle.record.specs.declared.Record.{Record}
-use Rattle.record.proofs.Sound.{Sound, sounds, chain-is}
-use Rattle.rewind.specs.Rewind.{reached, rewindInTurn}
-use Rattle.rewind.proofs.Lengths.{OnBlock, on-block, keeps-few, fill-le}
+use Rattle.orders.specs.declared.Record.{Record}
+use Rattle.orders.proofs.Sound.{Sound, sounds, chain-is}
+use Rattle.orders.specs.Rewind.{reached, rewindInTurn}
+use Rattle.orders.proofs.Lengths.{OnBlock, on-block, keeps-few, fill-le}
 use Rattle.rewind.proofs.rewind_bytes.Statement.{statement}
 use Rattle.rewind.proofs.rewind_bytes.Tie as tie
 

@@ -2,7 +2,7 @@
 use borrow.Author.Needs.{needs}
 use borrow.Author.Tests.{lt-ltb, le-ltb}
 use Rattle.lsh.proofs.Figures.{block-some}
-use Rattle.rewind.specs.Rewind.{startsOffBlock}
+use Rattle.orders.specs.Rewind.{startsOffBlock}
 use Rattle.rewind.proofs.starts_off_block.Statement.{statement}
 use Rattle.rewind.proofs.starts_off_block.Tie as tie
 

@@ -6,8 +6,8 @@ use Rattle.lsh.specs.WordSize.{sizeOf}
 use Rattle.checkpoints.specs.Checkpoints.{unlinked}
 use Rattle.checkpoints.proofs.InTurn.{roll-stays}
 use Rattle.roll.proofs.Walked.{traversal-count}
-use Rattle.rewind_roll.specs.RewindRoll.{cutRoll}
-use Rattle.rewind_roll.proofs.Rewinding.{roll-cut}
+use Rattle.checkpoints.specs.RewindRoll.{cutRoll}
+use Rattle.checkpoints.proofs.Rewinding.{roll-cut}
 use Rattle.rewind_roll.proofs.cut_roll.Statement.{statement}
 use Rattle.rewind_roll.proofs.cut_roll.Tie as tie
 

@@ -1,10 +1,10 @@
 -- `rewind_roll::end_roll` visits its contract. Assumes nothing.
 use mathlib.Core.Path.{ap, _∙_}
 use borrow.Author.Needs.{needs}
-use Rattle.record.specs.declared.Outcome.{Outcome}
-use Rattle.rewind_roll.specs.RewindRoll.{cutRoll}
-use Rattle.rewind_roll.specs.EndRoll.{endRollCall, endedRoll}
-use Rattle.rewind_roll.proofs.Rewinding.{accepted-roll}
+use Rattle.orders.specs.declared.Outcome.{Outcome}
+use Rattle.checkpoints.specs.RewindRoll.{cutRoll}
+use Rattle.checkpoints.specs.EndRoll.{endRollCall, endedRoll}
+use Rattle.checkpoints.proofs.Rewinding.{accepted-roll}
 use Rattle.rewind_roll.proofs.end_roll.Statement.{statement}
 use Rattle.rewind_roll.proofs.end_roll.Tie as tie
 

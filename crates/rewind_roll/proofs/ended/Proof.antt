@@ -4,7 +4,7 @@ use mathlib.Core.Bool.{not}
 use borrow.Author.Needs.{needs}
 use borrow.Author.Tests.{not-false}
 use Rattle.checkpoints.proofs.InTurn.{roll-refused, roll-rest}
-use Rattle.rewind_roll.specs.EndRoll.{endRollCall}
+use Rattle.checkpoints.specs.EndRoll.{endRollCall}
 use Rattle.rewind_roll.proofs.ended.Statement.{statement}
 use Rattle.rewind_roll.proofs.ended.Tie as tie
 

@@ -1,9 +1,9 @@
 -- `rewind_roll::rewind_roll` visits its contract. Assumes nothing.
 use mathlib.Core.Path.{ap, _∙_}
 use borrow.Author.Needs.{needs}
-use Rattle.record.specs.declared.Outcome.{Outcome}
-use Rattle.rewind_roll.specs.RewindRoll.{cutRoll, rewindRollCall, rewoundRoll}
-use Rattle.rewind_roll.proofs.Rewinding.{accepted-roll}
+use Rattle.orders.specs.declared.Outcome.{Outcome}
+use Rattle.checkpoints.specs.RewindRoll.{cutRoll, rewindRollCall, rewoundRoll}
+use Rattle.checkpoints.proofs.Rewinding.{accepted-roll}
 use Rattle.rewind_roll.proofs.rewind_roll.Statement.{statement}
 use Rattle.rewind_roll.proofs.rewind_roll.Tie as tie
 

@@ -2,7 +2,7 @@
 use mathlib.Core.Path.{_∙_}
 use borrow.Author.Needs.{needs}
 use Rattle.checkpoints.proofs.InTurn.{roll-refused, roll-rest}
-use Rattle.rewind_roll.specs.RewindRoll.{rewindRollCall}
+use Rattle.checkpoints.specs.RewindRoll.{rewindRollCall}
 use Rattle.rewind_roll.proofs.rewound.Statement.{statement}
 use Rattle.rewind_roll.proofs.rewound.Tie as tie
 

@@ -2,7 +2,7 @@
 use mathlib.Core.Path.{refl, sym, _∙_}
 use borrow.Author.Needs.{needs}
 use borrow.Author.Tests.{not-true, not-false}
-use Rattle.record.proofs.InTurn.{turn-passed}
+use Rattle.orders.proofs.InTurn.{turn-passed}
 use Rattle.answers.proofs.First.{refused-first, passed-first}
 use Rattle.checkpoints.specs.Roll.{rollAnswer}
 use Rattle.roll.proofs.turn.Statement.{statement}

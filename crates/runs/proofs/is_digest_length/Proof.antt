@@ -3,7 +3,7 @@ use mathlib.Core.Path.{ap, _∙_}
 use borrow.Author.Needs.{needs}
 use borrow.Author.Tests.{ne-eqb}
 use Rattle.lsh.proofs.Figures.{bits-are}
-use Rattle.runs.specs.Limits.{longestDigest, isDigestLength}
+use Rattle.limits.specs.Limits.{longestDigest, isDigestLength}
 use Rattle.runs.proofs.is_digest_length.Statement.{statement}
 use Rattle.runs.proofs.is_digest_length.Tie as tie
 

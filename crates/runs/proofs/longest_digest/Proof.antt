@@ -2,7 +2,7 @@
 use native.Mathlib.Omega.{arith}
 use borrow.Author.Needs.{needs}
 use Rattle.lsh.specs.WordSize.{blockBytes}
-use Rattle.runs.proofs.Limits.{block-most}
+use Rattle.limits.proofs.Limits.{block-most}
 use Rattle.runs.proofs.longest_digest.Statement.{statement}
 use Rattle.runs.proofs.longest_digest.Tie as tie
 

@@ -13,6 +13,6 @@ opening-spec =
     (tie.spec
     (λ c κs. search needs)
     (λ c κs. c .if1 .taken)
-    (λ c. c .published-opening .ensures ∙ ap₂ (λ (w n : ℕ). opening (sizeOf w) n) (c .before .before .published-place .ensures (c .before .if1 .taken) .0) (c .before .before .published-place .ensures (c .before .if1 .taken) .1))
+    (λ c. c .opening .ensures ∙ ap₂ (λ (w n : ℕ). opening (sizeOf w) n) (c .before .before .place .ensures (c .before .if1 .taken) .0) (c .before .before .place .ensures (c .before .if1 .taken) .1))
     (λ c κs. search needs)
     (λ c. c .opening-run .ensures))

@@ -10,9 +10,9 @@ use Rattle.lsh.specs.Block.{Chain, forwards}
 use Rattle.lsh.specs.Opening.{opening}
 use Rattle.lsh.specs.Padding.{blocksOf}
 use Rattle.lsh.proofs.Opening.{firstChain, first-chain, opening-run}
-use Rattle.runs.specs.Limits.{longestBlock}
-use Rattle.runs.proofs.Limits.{block-most}
-use Rattle.buffers.proofs.Zeros.{take-replicate}
+use Rattle.limits.specs.Limits.{longestBlock}
+use Rattle.limits.proofs.Limits.{block-most}
+use Rattle.lists.proofs.Zeros.{take-replicate}
 use Rattle.runs.proofs.opening_run.Statement.{statement}
 use Rattle.runs.proofs.opening_run.Tie as tie
 

@@ -7,7 +7,7 @@ use native.Mathlib.Omega.{arith}
 use lib.ListN.{length, take, drop}
 use lib.Seq.{sets-eq, take-all}
 use borrow.Author.Needs.{needs}
-use Rattle.runs.specs.Limits.{longestBlock}
+use Rattle.limits.specs.Limits.{longestBlock}
 use Rattle.runs.proofs.with_part.Statement.{statement}
 use Rattle.runs.proofs.with_part.Tie as tie
 

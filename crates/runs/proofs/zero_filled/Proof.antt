@@ -5,8 +5,8 @@ use Prim.Native.Nat.{ℕ}
 use lib.ListN.{length}
 use lib.Seq.{paste}
 use borrow.Author.Needs.{needs}
-use Rattle.buffers.proofs.Lists.{into-zeros}
-use Rattle.runs.specs.Limits.{longestBlock}
+use Rattle.lists.proofs.Lists.{into-zeros}
+use Rattle.limits.specs.Limits.{longestBlock}
 use Rattle.runs.proofs.zero_filled.Statement.{statement}
 use Rattle.runs.proofs.zero_filled.Tie as tie
 

@@ -2,9 +2,9 @@
 use mathlib.Core.Path.{refl, sym, _∙_}
 use Prim.Native.Nat.{_-_, _≤_}
 use native.Mathlib.Omega.{arith}
-use Rattle.finalization.specs.Receipt.{receiptBytes}
-use Rattle.buffers.proofs.Equal.{Tested, tested-more, tested-all}
-use Rattle.same.proofs.Agreement.{same-is-equal}
+use Rattle.receipts.specs.Receipt.{receiptBytes}
+use Rattle.lists.proofs.Equal.{Tested, tested-more, tested-all}
+use Rattle.receipts.proofs.Agreement.{same-is-equal}
 use Rattle.same.proofs.all_agree.Statement.{statement}
 use Rattle.same.proofs.all_agree.Tie as tie
 

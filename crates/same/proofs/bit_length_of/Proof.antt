@@ -1,7 +1,7 @@
 -- `same::bit_length_of` meets its contract. Assumes nothing.
 use native.Mathlib.Omega.{arith}
-use Rattle.finalization.specs.Receipt.{receiptBytes}
-use Rattle.same.specs.Parts.{bitLengthOf}
+use Rattle.receipts.specs.Receipt.{receiptBytes}
+use Rattle.receipts.specs.Parts.{bitLengthOf}
 use Rattle.same.proofs.bit_length_of.Statement.{statement}
 use Rattle.same.proofs.bit_length_of.Tie as tie
 

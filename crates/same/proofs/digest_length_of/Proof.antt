@@ -1,8 +1,8 @@
 -- `same::digest_length_of` meets its contract. Assumes nothing.
 use native.Mathlib.Omega.{arith}
-use Rattle.finalization.specs.Receipt.{receiptBytes}
+use Rattle.receipts.specs.Receipt.{receiptBytes}
 use Rattle.lsh.specs.Bytes.{wordAt}
-use Rattle.same.specs.Parts.{digestLengthOf}
+use Rattle.receipts.specs.Parts.{digestLengthOf}
 use Rattle.same.proofs.digest_length_of.Statement.{statement}
 use Rattle.same.proofs.digest_length_of.Tie as tie
 

@@ -2,8 +2,8 @@
 use native.Mathlib.Omega.{arith}
 use borrow.Author.Needs.{needs}
 use borrow.Author.Tests.{eq-eqb, ne-eqb}
-use Rattle.finalization.specs.Receipt.{receiptBytes}
-use Rattle.same.specs.WellFormed.{unusedZero}
+use Rattle.receipts.specs.Receipt.{receiptBytes}
+use Rattle.receipts.specs.WellFormed.{unusedZero}
 use Rattle.same.proofs.is_unused_zero.Statement.{statement}
 use Rattle.same.proofs.is_unused_zero.Tie as tie
 

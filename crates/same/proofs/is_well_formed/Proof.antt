@@ -9,12 +9,12 @@ use borrow.Author.Needs.{needs}
 use borrow.Author.Tests.{not-true, not-false, eq-eqb, ne-eqb}
 use Rattle.lsh.specs.Tabulate.{at}
 use Rattle.lsh.specs.WordSize.{isWordSize}
-use Rattle.runs.specs.Limits.{longestDigest, isDigestLength, limit}
-use Rattle.runs.proofs.Limits.{digest-longest}
-use Rattle.finalization.specs.Receipt.{receiptBytes}
-use Rattle.finalization.specs.Ending.{mostBits}
-use Rattle.same.specs.Parts.{wordSizeOf, digestLengthOf, bitLengthOf}
-use Rattle.same.specs.WellFormed.{unusedZero, zeroAfter, wellFormed}
+use Rattle.limits.specs.Limits.{longestDigest, isDigestLength, limit}
+use Rattle.limits.proofs.Limits.{digest-longest}
+use Rattle.receipts.specs.Receipt.{receiptBytes}
+use Rattle.receipts.specs.Ending.{mostBits}
+use Rattle.receipts.specs.Parts.{wordSizeOf, digestLengthOf, bitLengthOf}
+use Rattle.receipts.specs.WellFormed.{unusedZero, zeroAfter, wellFormed}
 use Rattle.same.proofs.is_well_formed.Statement.{statement}
 use Rattle.same.proofs.is_well_formed.Tie as tie
 

@@ -3,8 +3,8 @@ use mathlib.Core.Path.{sym}
 use native.Mathlib.Omega.{arith}
 use lib.Seq.{length-take-le}
 use borrow.Author.Needs.{needs}
-use Rattle.finalization.specs.Receipt.{receiptBytes, lengthPlace}
-use Rattle.same.specs.WellFormed.{zeroAfter}
+use Rattle.receipts.specs.Receipt.{receiptBytes, lengthPlace}
+use Rattle.receipts.specs.WellFormed.{zeroAfter}
 use Rattle.same.proofs.is_zero_after.Statement.{statement}
 use Rattle.same.proofs.is_zero_after.Tie as tie
 

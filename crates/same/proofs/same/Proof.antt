@@ -2,9 +2,9 @@
 use mathlib.Core.Path.{_≡_, sym, _∙_}
 use mathlib.Core.Bool.{true}
 use borrow.Author.Tests.{not-true, not-false, eq-eqb, ne-eqb}
-use Rattle.finalization.specs.Receipt.{receiptBytes}
-use Rattle.same.specs.WellFormed.{wellFormed}
-use Rattle.same.specs.Same.{isReceiptLong, sameCall}
+use Rattle.receipts.specs.Receipt.{receiptBytes}
+use Rattle.receipts.specs.WellFormed.{wellFormed}
+use Rattle.receipts.specs.Same.{isReceiptLong, sameCall}
 use Rattle.same.proofs.same.Statement.{statement}
 use Rattle.same.proofs.same.Tie as tie
 

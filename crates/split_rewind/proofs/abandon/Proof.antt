@@ -2,9 +2,9 @@
 use mathlib.Core.Path.{_≡_, sym, ap, _∙_}
 use mathlib.Core.Bool.{true, false, not}
 use borrow.Author.Needs.{needs}
-use Rattle.record.specs.Record.{sound, isBegun, stepped}
-use Rattle.record.proofs.InTurn.{turn-refused, turn-passed, in-turn}
-use Rattle.split_rewind.specs.Abandon.{abandonCall}
+use Rattle.orders.specs.Record.{sound, isBegun, stepped}
+use Rattle.orders.proofs.InTurn.{turn-refused, turn-passed, in-turn}
+use Rattle.orders.specs.Abandon.{abandonCall}
 use Rattle.split_rewind.proofs.abandon.Statement.{statement}
 use Rattle.split_rewind.proofs.abandon.Tie as tie
 

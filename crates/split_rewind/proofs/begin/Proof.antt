@@ -6,9 +6,9 @@ use lib.Dec.{eqb}
 use lib.ListN.{length}
 use borrow.Author.Needs.{needs}
 use borrow.Author.Tests.{eq-eqb, ne-eqb}
-use Rattle.record.specs.Record.{heldOf, heldLength, sound, isBegun}
-use Rattle.record.proofs.InTurn.{turn-refused, turn-passed, in-turn}
-use Rattle.split_rewind.specs.Begin.{begun, beginCall}
+use Rattle.orders.specs.Record.{heldOf, heldLength, sound, isBegun}
+use Rattle.orders.proofs.InTurn.{turn-refused, turn-passed, in-turn}
+use Rattle.orders.specs.Begin.{begun, beginCall}
 use Rattle.split_rewind.proofs.begin.Statement.{statement}
 use Rattle.split_rewind.proofs.begin.Tie as tie
 

@@ -3,9 +3,9 @@ use mathlib.Core.Path.{_≡_, sym, ap, _∙_}
 use mathlib.Core.Bool.{true, false, not}
 use borrow.Author.Needs.{needs}
 use borrow.Author.Tests.{not-false}
-use Rattle.record.specs.Record.{sound, isBegun}
-use Rattle.record.proofs.InTurn.{turn-refused, turn-passed, in-turn}
-use Rattle.split_rewind.specs.HandBack.{handBackCall}
+use Rattle.orders.specs.Record.{sound, isBegun}
+use Rattle.orders.proofs.InTurn.{turn-refused, turn-passed, in-turn}
+use Rattle.orders.specs.HandBack.{handBackCall}
 use Rattle.split_rewind.proofs.hand_back.Statement.{statement}
 use Rattle.split_rewind.proofs.hand_back.Tie as tie
 

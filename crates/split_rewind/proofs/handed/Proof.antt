@@ -2,10 +2,10 @@
 use Prim.Native.Nat.{_≤_}
 use native.Mathlib.Omega.{arith}
 use borrow.Author.Needs.{needs}
-use Rattle.runs.specs.Limits.{limit}
-use Rattle.record.proofs.Sound.{sounds}
-use Rattle.split_rewind.specs.End.{handed}
-use Rattle.split_rewind.proofs.Lengths.{handed-most}
+use Rattle.limits.specs.Limits.{limit}
+use Rattle.orders.proofs.Sound.{sounds}
+use Rattle.orders.specs.End.{handed}
+use Rattle.orders.proofs.HandBacks.{handed-most}
 use Rattle.split_rewind.proofs.handed.Statement.{statement}
 use Rattle.split_rewind.proofs.handed.Tie as tie
 

@@ -6,13 +6,13 @@ use native.Mathlib.Omega.{arith}
 use lib.ListN.{length}
 use borrow.Author.Needs.{needs}
 use Rattle.lsh.specs.WordSize.{sizeOf, blockBytes}
-use Rattle.runs.specs.Limits.{limit}
-use Rattle.runs.proofs.Limits.{block-most}
-use Rattle.record.specs.Record.{heldOf}
-use Rattle.record.specs.declared.Record.{Record}
-use Rattle.record.proofs.Sound.{sounds}
-use Rattle.split_rewind.specs.HandBack.{handedBack}
-use Rattle.split_rewind.proofs.Lengths.{a-block, second-chain}
+use Rattle.limits.specs.Limits.{limit}
+use Rattle.limits.proofs.Limits.{block-most}
+use Rattle.orders.specs.Record.{heldOf}
+use Rattle.orders.specs.declared.Record.{Record}
+use Rattle.orders.proofs.Sound.{sounds}
+use Rattle.orders.specs.HandBack.{handedBack}
+use Rattle.orders.proofs.HandBacks.{a-block, second-chain}
 use Rattle.split_rewind.proofs.handed_back.Statement.{statement}
 use Rattle.split_rewind.proofs.handed_back.Tie as tie
 

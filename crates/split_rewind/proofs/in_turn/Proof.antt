@@ -2,8 +2,8 @@
 use mathlib.Core.Path.{_≡_, sym, ap, _∙_}
 use borrow.Author.Needs.{needs}
 use Rattle.lsh.specs.WordSize.{sizeOf, blockBytes}
-use Rattle.rewind.specs.Rewind.{keepsTooMuch}
-use Rattle.split_rewind.specs.End.{handed, endCut, endInTurn}
+use Rattle.orders.specs.Rewind.{keepsTooMuch}
+use Rattle.orders.specs.End.{handed, endCut, endInTurn}
 use Rattle.split_rewind.proofs.in_turn.Statement.{statement}
 use Rattle.split_rewind.proofs.in_turn.Tie as tie
 

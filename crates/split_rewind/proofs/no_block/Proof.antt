@@ -3,7 +3,7 @@ use mathlib.Core.Path.{sym, _∙_}
 use borrow.Author.Needs.{needs}
 use borrow.Author.Tests.{eq-eqb, ne-eqb}
 use Rattle.lsh.proofs.Figures.{block-some}
-use Rattle.split_rewind.specs.HandBack.{noBlock}
+use Rattle.orders.specs.HandBack.{noBlock}
 use Rattle.split_rewind.proofs.no_block.Statement.{statement}
 use Rattle.split_rewind.proofs.no_block.Tie as tie
 

@@ -8,14 +8,14 @@ use lib.Seq.{length-take-le}
 use borrow.Author.Needs.{needs}
 use borrow.Author.Tests.{eq-eqb, ne-eqb}
 use Rattle.lsh.specs.WordSize.{sizeOf, blockBytes}
-use Rattle.runs.specs.Limits.{longestBlock}
-use Rattle.runs.proofs.Limits.{block-most}
-use Rattle.record.specs.declared.Record.{Record}
-use Rattle.record.specs.Record.{heldLength, heldBytes, sound}
-use Rattle.record.proofs.Held.{fill-in, held-length}
-use Rattle.rewind.proofs.Lengths.{keeps-few}
-use Rattle.split_rewind.specs.End.{handed, lastBytes}
-use Rattle.split_rewind.proofs.Lengths.{handed-blocks, handed-most}
+use Rattle.limits.specs.Limits.{longestBlock}
+use Rattle.limits.proofs.Limits.{block-most}
+use Rattle.orders.specs.declared.Record.{Record}
+use Rattle.orders.specs.Record.{heldLength, heldBytes, sound}
+use Rattle.orders.proofs.Held.{fill-in, held-length}
+use Rattle.orders.proofs.Lengths.{keeps-few}
+use Rattle.orders.specs.End.{handed, lastBytes}
+use Rattle.orders.proofs.HandBacks.{handed-blocks, handed-most}
 use Rattle.split_rewind.proofs.remaining.Statement.{statement}
 use Rattle.split_rewind.proofs.remaining.Tie as tie
 

@@ -5,10 +5,10 @@ use lib.ListN.{length}
 use lib.Seq.{length-take-le}
 use borrow.Author.Needs.{needs}
 use borrow.Author.Tests.{eq-eqb, ne-eqb}
-use Rattle.runs.specs.Limits.{longestBlock}
-use Rattle.runs.proofs.Limits.{digest-longest}
-use Rattle.tag.specs.Check.{checkCall}
-use Rattle.tag_answers.proofs.Accepted.{Keyed, keyed}
+use Rattle.limits.specs.Limits.{longestBlock}
+use Rattle.limits.proofs.Limits.{digest-longest}
+use Rattle.tags.specs.Check.{checkCall}
+use Rattle.tags.proofs.Accepted.{Keyed, keyed}
 use Rattle.tag.proofs.check.Statement.{statement}
 use Rattle.tag.proofs.check.Tie as tie
 

@@ -6,15 +6,15 @@ use native.Mathlib.Omega.{arith}
 use lib.ListN.{length, take}
 use lib.Seq.{length-take-le}
 use borrow.Author.Needs.{needs}
-use Rattle.runs.specs.Limits.{longestBlock, longestDigest}
-use Rattle.runs.proofs.Limits.{digest-longest}
-use Rattle.record.specs.Record.{sound}
-use Rattle.record.proofs.Sound.{sounds}
-use Rattle.hmac.specs.Hmac.{tagOf}
-use Rattle.tag_answers.specs.KeyAnswer.{tagBytes}
-use Rattle.tag.specs.Finish.{finishOutput}
+use Rattle.limits.specs.Limits.{longestBlock, longestDigest}
+use Rattle.limits.proofs.Limits.{digest-longest}
+use Rattle.orders.specs.Record.{sound}
+use Rattle.orders.proofs.Sound.{sounds}
+use Rattle.tags.specs.Hmac.{tagOf}
+use Rattle.tags.specs.KeyAnswer.{tagBytes}
+use Rattle.tags.specs.Finish.{finishOutput}
 use Rattle.answers.proofs.Output.{refused-output, written-output}
-use Rattle.tag_answers.proofs.Accepted.{finish-accepted}
+use Rattle.tags.proofs.Accepted.{finish-accepted}
 use Rattle.tag.proofs.finish.Statement.{statement}
 use Rattle.tag.proofs.finish.Tie as tie
 

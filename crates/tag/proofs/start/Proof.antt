@@ -4,18 +4,18 @@ use native.Mathlib.Omega.{arith}
 use lib.ListN.{length, take}
 use lib.Seq.{length-take-le}
 use borrow.Author.Needs.{needs}
-use Rattle.runs.specs.Limits.{longestBlock, limit}
-use Rattle.runs.proofs.Limits.{block-most}
-use Rattle.record.specs.declared.Record.{Record}
-use Rattle.record.specs.Record.{sound}
-use Rattle.record.specs.Open.{opened}
-use Rattle.record.proofs.InTurn.{answered-refused, answered-rest}
-use Rattle.append.specs.Append.{appendAccepted}
-use Rattle.hmac.specs.Hmac.{innerByte, xorEach, innerKey}
-use Rattle.hmac.proofs.Keys.{xored-front}
-use Rattle.tag.specs.Start.{startCall}
-use Rattle.tag_answers.proofs.Accepted.{Keyed, keyed}
-use Rattle.tag.proofs.Started.{opened-sound}
+use Rattle.limits.specs.Limits.{longestBlock, limit}
+use Rattle.limits.proofs.Limits.{block-most}
+use Rattle.orders.specs.declared.Record.{Record}
+use Rattle.orders.specs.Record.{sound}
+use Rattle.orders.specs.Open.{opened}
+use Rattle.orders.proofs.InTurn.{answered-refused, answered-rest}
+use Rattle.orders.specs.Append.{appendAccepted}
+use Rattle.tags.specs.Hmac.{innerByte, xorEach, innerKey}
+use Rattle.tags.proofs.Keys.{xored-front}
+use Rattle.tags.specs.Start.{startCall}
+use Rattle.tags.proofs.Accepted.{Keyed, keyed}
+use Rattle.tags.proofs.Started.{opened-sound}
 use Rattle.tag.proofs.start.Statement.{statement}
 use Rattle.tag.proofs.start.Tie as tie
 

@@ -4,11 +4,11 @@ use Prim.Native.Nat.{_≤_}
 use native.Mathlib.Omega.{arith}
 use lib.ListN.{length}
 use borrow.Author.Needs.{needs}
-use Rattle.runs.proofs.Limits.{digest-longest}
-use Rattle.tag_answers.specs.KeyAnswer.{tagBytes}
-use Rattle.tag.specs.Tag.{tagOutput}
+use Rattle.limits.proofs.Limits.{digest-longest}
+use Rattle.tags.specs.KeyAnswer.{tagBytes}
+use Rattle.tags.specs.Tag.{tagOutput}
 use Rattle.answers.proofs.Output.{refused-output, written-output}
-use Rattle.tag_answers.proofs.Accepted.{Keyed, tag-accepted}
+use Rattle.tags.proofs.Accepted.{Keyed, tag-accepted}
 use Rattle.tag.proofs.tag.Statement.{statement}
 use Rattle.tag.proofs.tag.Tie as tie
 

@@ -7,7 +7,7 @@ use native.Mathlib.Omega.{arith}
 use lib.ListN.{length, take, drop}
 use lib.Seq.{length-take-le, sets-eq}
 use borrow.Author.Needs.{needs}
-use Rattle.runs.specs.Limits.{longestBlock}
+use Rattle.limits.specs.Limits.{longestBlock}
 use Rattle.tag.proofs.write_tag.Statement.{statement}
 use Rattle.tag.proofs.write_tag.Tie as tie
 

@@ -2,7 +2,7 @@
 use native.Mathlib.Omega.{arith}
 use borrow.Author.Needs.{needs}
 use Rattle.answers.proofs.First.{refused-first, passed-first}
-use Rattle.tag_answers.specs.KeyAnswer.{tagAnswer}
+use Rattle.tags.specs.KeyAnswer.{tagAnswer}
 use Rattle.tag_answers.proofs.answer.Statement.{statement}
 use Rattle.tag_answers.proofs.answer.Tie as tie
 

@@ -3,9 +3,9 @@ use mathlib.Core.Path.{_≡_, sym, _∙_}
 use mathlib.Core.Bool.{true}
 use borrow.Author.Needs.{needs}
 use borrow.Author.Tests.{lt-ltb, le-ltb, eq-eqb, ne-eqb, not-true, not-false}
-use Rattle.runs.specs.Limits.{limit}
-use Rattle.record.specs.Record.{sound}
-use Rattle.tag_answers.specs.KeyAnswer.{isWholeBytes, finishAnswer}
+use Rattle.limits.specs.Limits.{limit}
+use Rattle.orders.specs.Record.{sound}
+use Rattle.tags.specs.KeyAnswer.{isWholeBytes, finishAnswer}
 use Rattle.tag_answers.proofs.finish_answer.Statement.{statement}
 use Rattle.tag_answers.proofs.finish_answer.Tie as tie
 

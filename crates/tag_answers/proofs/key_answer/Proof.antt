@@ -5,10 +5,10 @@ use native.Mathlib.Omega.{arith}
 use borrow.Author.Needs.{needs}
 use borrow.Author.Tests.{eq-eqb, ne-eqb, not-true, not-false}
 use Rattle.lsh.specs.WordSize.{isWordSize}
-use Rattle.runs.specs.Limits.{isDigestLength, limit}
-use Rattle.runs.proofs.Limits.{block-most}
-use Rattle.tag_answers.specs.KeyAnswer.{isWholeBytes, keyAnswer}
-use Rattle.tag_answers.proofs.Accepted.{tests-length}
+use Rattle.limits.specs.Limits.{isDigestLength, limit}
+use Rattle.limits.proofs.Limits.{block-most}
+use Rattle.tags.specs.KeyAnswer.{isWholeBytes, keyAnswer}
+use Rattle.tags.proofs.Accepted.{tests-length}
 use Rattle.tag_answers.proofs.key_answer.Statement.{statement}
 use Rattle.tag_answers.proofs.key_answer.Tie as tie
 

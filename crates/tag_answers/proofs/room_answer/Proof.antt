@@ -1,6 +1,6 @@
 -- `tag_answers::room_answer` meets its contract. Assumes nothing.
 use borrow.Author.Tests.{lt-ltb, le-ltb}
-use Rattle.tag_answers.specs.KeyAnswer.{roomAnswer}
+use Rattle.tags.specs.KeyAnswer.{roomAnswer}
 use Rattle.tag_answers.proofs.room_answer.Statement.{statement}
 use Rattle.tag_answers.proofs.room_answer.Tie as tie
 

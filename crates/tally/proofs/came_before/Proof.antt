@@ -2,10 +2,10 @@
 use mathlib.Core.Path.{_≡_, refl, sym, ap₂, _∙_, subst}
 use Prim.Native.Nat.{_-_, _≤_}
 use native.Mathlib.Omega.{arith}
-use Rattle.same.specs.WellFormed.{IsReceipt}
-use Rattle.same.specs.Same.{sameReceipt}
-use Rattle.tally.specs.Tally.{mostReceipts, receiptAt}
-use Rattle.tally.proofs.Places.{Left, found, not-found, none-left}
+use Rattle.receipts.specs.WellFormed.{IsReceipt}
+use Rattle.receipts.specs.Same.{sameReceipt}
+use Rattle.receipts.specs.Tally.{mostReceipts, receiptAt}
+use Rattle.receipts.proofs.Places.{Left, found, not-found, none-left}
 use Rattle.tally.proofs.Sums.{sums-differ}
 use Rattle.tally.proofs.came_before.Statement.{statement}
 use Rattle.tally.proofs.came_before.Tie as tie

@@ -5,8 +5,8 @@ use native.Mathlib.Omega.{arith}
 use lib.ListN.{length}
 use borrow.Author.Needs.{needs}
 use Rattle.loops.proofs.Places.{Placed, placed-none, filled-more}
-use Rattle.finalization.specs.Receipt.{receiptBytes}
-use Rattle.tally.specs.Tally.{mostReceipts, receiptCount, receiptAt}
+use Rattle.receipts.specs.Receipt.{receiptBytes}
+use Rattle.receipts.specs.Tally.{mostReceipts, receiptCount, receiptAt}
 use Rattle.tally.specs.Checksum.{checksum}
 use Rattle.tally.proofs.checksums.Statement.{statement}
 use Rattle.tally.proofs.checksums.Tie as tie

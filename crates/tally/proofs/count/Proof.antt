@@ -4,11 +4,11 @@ use mathlib.Core.Logic.{⊎-elim}
 use Prim.Native.Nat.{_-_, _≤_, zero-le}
 use native.Mathlib.Omega.{arith}
 use lib.ListN.{length}
-use Rattle.finalization.specs.Receipt.{receiptBytes}
-use Rattle.tally.specs.Kinds.{isBlank}
-use Rattle.tally.specs.Tally.{mostReceipts, receiptCount, counted}
-use Rattle.tally.proofs.Places.{receipt-length}
-use Rattle.tally.proofs.Counting.{Counted, counted-none, together, one-more, all-done}
+use Rattle.receipts.specs.Receipt.{receiptBytes}
+use Rattle.receipts.specs.Kinds.{isBlank}
+use Rattle.receipts.specs.Tally.{mostReceipts, receiptCount, counted}
+use Rattle.receipts.proofs.Places.{receipt-length}
+use Rattle.receipts.proofs.Counting.{Counted, counted-none, together, one-more, all-done}
 use Rattle.tally.proofs.count.Statement.{statement}
 use Rattle.tally.proofs.count.Tie as tie
 

@@ -4,11 +4,11 @@ use Prim.Native.Nat.{_-_}
 use native.Mathlib.Omega.{arith}
 use lib.ListN.{length}
 use borrow.Author.Tests.{not-true, not-false}
-use Rattle.finalization.specs.Receipt.{receiptBytes}
-use Rattle.same.specs.WellFormed.{wellFormed}
-use Rattle.tally.specs.Tally.{receiptCount}
-use Rattle.tally.proofs.Places.{receipt-length}
-use Rattle.tally.proofs.Malformed.{Searched, searched-none, malformed-here, searched-more, searched-all}
+use Rattle.receipts.specs.Receipt.{receiptBytes}
+use Rattle.receipts.specs.WellFormed.{wellFormed}
+use Rattle.receipts.specs.Tally.{receiptCount}
+use Rattle.receipts.proofs.Places.{receipt-length}
+use Rattle.receipts.proofs.Malformed.{Searched, searched-none, malformed-here, searched-more, searched-all}
 use Rattle.tally.proofs.first_malformed.Statement.{statement}
 use Rattle.tally.proofs.first_malformed.Tie as tie
 

@@ -3,7 +3,7 @@ use mathlib.Core.Path.{ap}
 use Prim.Native.Nat.{ℕ}
 use borrow.Author.Needs.{needs}
 use lib.Dec.{eqb}
-use Rattle.tally.specs.Kinds.{isBlank}
+use Rattle.receipts.specs.Kinds.{isBlank}
 use Rattle.tally.proofs.is_blank.Statement.{statement}
 use Rattle.tally.proofs.is_blank.Tie as tie
 

@@ -1,9 +1,9 @@
 -- `tally::receipt_at` meets its contract. Assumes nothing.
 use native.Mathlib.Omega.{arith}
 use borrow.Author.Needs.{needs}
-use Rattle.finalization.specs.Receipt.{receiptBytes}
-use Rattle.tally.specs.Tally.{receiptCount}
-use Rattle.tally.proofs.Places.{part-is}
+use Rattle.receipts.specs.Receipt.{receiptBytes}
+use Rattle.receipts.specs.Tally.{receiptCount}
+use Rattle.receipts.proofs.Places.{part-is}
 use Rattle.tally.proofs.receipt_at.Statement.{statement}
 use Rattle.tally.proofs.receipt_at.Tie as tie
 

@@ -1,6 +1,6 @@
 -- `tally::refusal` meets its contract. Assumes nothing.
 use mathlib.Core.Path.{refl}
-use Rattle.tally.specs.Tally.{refusedTally}
+use Rattle.receipts.specs.Tally.{refusedTally}
 use Rattle.tally.proofs.refusal.Statement.{statement}
 use Rattle.tally.proofs.refusal.Tie as tie
 

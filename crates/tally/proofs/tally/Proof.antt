@@ -3,10 +3,10 @@ use mathlib.Core.Path.{sym, _∙_}
 use Prim.Native.Nat.{_*_}
 use borrow.Author.Needs.{needs}
 use borrow.Author.Tests.{eq-eqb, ne-eqb, lt-ltb}
-use Rattle.finalization.specs.Receipt.{receiptBytes}
-use Rattle.tally.specs.Tally.{mostReceipts, receiptCount, isBadLength, tallyCall}
-use Rattle.tally.proofs.Malformed.{all-receipts}
-use Rattle.tally.proofs.Answers.{malformed-answer, counted-answer}
+use Rattle.receipts.specs.Receipt.{receiptBytes}
+use Rattle.receipts.specs.Tally.{mostReceipts, receiptCount, isBadLength, tallyCall}
+use Rattle.receipts.proofs.Malformed.{all-receipts}
+use Rattle.receipts.proofs.TallyAnswers.{malformed-answer, counted-answer}
 use Rattle.tally.proofs.tally.Statement.{statement}
 use Rattle.tally.proofs.tally.Tie as tie
 

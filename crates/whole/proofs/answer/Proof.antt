@@ -2,8 +2,8 @@
 use mathlib.Core.Path.{sym, _∙_}
 use borrow.Author.Needs.{needs}
 use borrow.Author.Tests.{lt-ltb, le-ltb, not-true, not-false}
-use Rattle.runs.specs.Limits.{limit}
-use Rattle.whole.specs.Whole.{wholeAnswer}
+use Rattle.limits.specs.Limits.{limit}
+use Rattle.receipts.specs.Whole.{wholeAnswer}
 use Rattle.whole.proofs.answer.Statement.{statement}
 use Rattle.whole.proofs.answer.Tie as tie
 

@@ -3,12 +3,12 @@ use mathlib.Core.Path.{sym, _∙_}
 use native.Mathlib.Omega.{arith}
 use lib.ListN.{length}
 use borrow.Author.Needs.{needs}
-use Rattle.runs.specs.Limits.{limit}
-use Rattle.runs.proofs.Limits.{digest-most}
+use Rattle.limits.specs.Limits.{limit}
+use Rattle.limits.proofs.Limits.{digest-most}
 use Rattle.finalization.proofs.MessageChain.{opened-chain, run-chain}
 use Rattle.answers.proofs.Output.{refused-output, written-output}
-use Rattle.whole.specs.Whole.{wholeOutput}
-use Rattle.whole.proofs.Answers.{Accepted, accepted, receipt-is}
+use Rattle.receipts.specs.Whole.{wholeOutput}
+use Rattle.receipts.proofs.WholeAnswers.{Accepted, accepted, receipt-is}
 use Rattle.whole.proofs.whole.Statement.{statement}
 use Rattle.whole.proofs.whole.Tie as tie
 

@@ -2,7 +2,7 @@
 use mathlib.Core.Path.{sym}
 use Prim.Native.Nat.{ℕ}
 use lib.ListN.{length-replicate}
-use Rattle.finalization.specs.Receipt.{receiptBytes}
+use Rattle.receipts.specs.Receipt.{receiptBytes}
 use Rattle.receipt.specs.Sizes.{lineBytes}
 use Rattle.receipt.proofs.line.buffer.Statement.{statement}
 use Rattle.receipt.proofs.line.buffer.Tie as tie

@@ -2,7 +2,7 @@
 use native.Mathlib.Omega.{arith}
 use borrow.Author.Needs.{needs}
 use Rattle.lsh.specs.WordSize.{sizeOf, lsh512}
-use Rattle.finalization.specs.Receipt.{receiptBytes}
+use Rattle.receipts.specs.Receipt.{receiptBytes}
 use Rattle.receipt.proofs.line.digest_bytes.Statement.{statement}
 use Rattle.receipt.proofs.line.digest_bytes.Tie as tie
 

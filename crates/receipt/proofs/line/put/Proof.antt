@@ -2,7 +2,7 @@
 use native.Mathlib.Omega.{arith}
 use lib.ListN.{length-set}
 use borrow.Author.Needs.{needs}
-use Rattle.finalization.specs.Receipt.{receiptBytes}
+use Rattle.receipts.specs.Receipt.{receiptBytes}
 use Rattle.receipt.specs.Sizes.{lineBytes}
 use Rattle.receipt.proofs.line.put.Statement.{statement}
 use Rattle.receipt.proofs.line.put.Tie as tie

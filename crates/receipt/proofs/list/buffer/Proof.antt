@@ -2,8 +2,8 @@
 use mathlib.Core.Path.{sym}
 use Prim.Native.Nat.{ℕ}
 use lib.ListN.{length-replicate}
-use Rattle.finalization.specs.Receipt.{receiptBytes}
-use Rattle.tally.specs.Tally.{mostReceipts}
+use Rattle.receipts.specs.Receipt.{receiptBytes}
+use Rattle.receipts.specs.Tally.{mostReceipts}
 use Rattle.receipt.specs.Sizes.{listBytes}
 use Rattle.receipt.proofs.list.buffer.Statement.{statement}
 use Rattle.receipt.proofs.list.buffer.Tie as tie

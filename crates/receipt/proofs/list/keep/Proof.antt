@@ -3,8 +3,8 @@ use mathlib.Core.Path.{_≡_}
 use native.Mathlib.Omega.{arith}
 use lib.ListN.{length}
 use borrow.Author.Needs.{needs}
-use Rattle.finalization.specs.Receipt.{receiptBytes}
-use Rattle.tally.specs.Tally.{mostReceipts}
+use Rattle.receipts.specs.Receipt.{receiptBytes}
+use Rattle.receipts.specs.Tally.{mostReceipts}
 use Rattle.receipt.specs.Sizes.{listBytes}
 use Rattle.receipt.proofs.list.keep.Statement.{statement}
 use Rattle.receipt.proofs.list.keep.Tie as tie

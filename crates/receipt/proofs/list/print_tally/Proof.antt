@@ -1,8 +1,8 @@
 -- `receipt::list::print_tally` is safe. Assumes nothing.
 use native.Mathlib.Omega.{arith}
 use borrow.Author.Needs.{needs}
-use Rattle.finalization.specs.Receipt.{receiptBytes}
-use Rattle.tally.specs.Tally.{mostReceipts}
+use Rattle.receipts.specs.Receipt.{receiptBytes}
+use Rattle.receipts.specs.Tally.{mostReceipts}
 use Rattle.receipt.specs.Sizes.{listBytes}
 use Rattle.receipt.proofs.list.print_tally.Statement.{statement}
 use Rattle.receipt.proofs.list.print_tally.Tie as tie

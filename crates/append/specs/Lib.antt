@@ -1,2 +1,0 @@
-pub mod Append
-pub mod Pieces

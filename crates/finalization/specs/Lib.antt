@@ -1,2 +1,0 @@
-pub mod Receipt
-pub mod Ending

@@ -1,3 +1,0 @@
--- Laws of HMAC over LSH.
-pub mod Digests
-pub mod Keys

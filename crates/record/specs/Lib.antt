@@ -1,5 +1,0 @@
-pub mod Split
-pub mod Record
-pub mod Arrays
-pub mod Open
-pub mod Turn

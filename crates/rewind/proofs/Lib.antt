@@ -1,3 +1,0 @@
--- Laws of Rewind.
-pub mod Lengths
-pub mod Reached

@@ -1,2 +1,0 @@
-pub mod Rewind
-pub mod OnlyChain

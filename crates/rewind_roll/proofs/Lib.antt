@@ -1,2 +1,0 @@
--- Laws of Rewind with a roll.
-pub mod Rewinding

@@ -1,2 +1,0 @@
-pub mod RewindRoll
-pub mod EndRoll

@@ -1,4 +1,0 @@
-pub mod Parts
-pub mod WellFormed
-pub mod Same
-pub mod Written

@@ -1,3 +1,0 @@
--- Laws of split rewinds.
-pub mod Lengths
-pub mod OneRewind

@@ -1,3 +1,0 @@
--- Laws of the tags.
-pub mod Started
-pub mod Checked

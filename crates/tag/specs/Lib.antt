@@ -1,4 +1,0 @@
-pub mod Tag
-pub mod Start
-pub mod Finish
-pub mod Check

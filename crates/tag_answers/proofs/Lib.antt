@@ -1,2 +1,0 @@
--- What an answer says of the calls with a key.
-pub mod Accepted
