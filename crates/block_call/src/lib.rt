@@ -2,7 +2,7 @@
 ghost use mathlib.Core.Path.{_≡_};
 ghost use mathlib.Core.Bool.{not, _&&_, cond};
 ghost use lib.ListN.{length};
-ghost use Rattle.block_call.specs.BlockCall.{blockAnswer, forwardBytes, backwardBytes};
+ghost use Rattle.blocks.specs.BlockCall.{blockAnswer, forwardBytes, backwardBytes};
 
 // Runs the block forward, if the answer is 0.
 pub fn forward(w: u64, chain: &mut [u8], block: &[u8]) -> u32

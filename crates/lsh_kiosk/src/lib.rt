@@ -2,7 +2,7 @@
 // equation of. Records and answers pass by value.
 ghost use mathlib.Core.Path.{_≡_};
 ghost use lib.ListN.{length};
-ghost use Rattle.block_call.specs.BlockCall.{blockAnswer, forwardBytes, backwardBytes};
+ghost use Rattle.blocks.specs.BlockCall.{blockAnswer, forwardBytes, backwardBytes};
 ghost use Rattle.orders.specs.Open.{openCall};
 ghost use Rattle.orders.specs.Append.{appendCall};
 ghost use Rattle.orders.specs.Rewind.{rewindCall};

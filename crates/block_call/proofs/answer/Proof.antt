@@ -2,7 +2,7 @@
 use mathlib.Core.Path.{sym, _∙_}
 use borrow.Author.Needs.{needs}
 use borrow.Author.Tests.{not-true, not-false}
-use Rattle.block_call.specs.BlockCall.{areLengths, blockAnswer}
+use Rattle.blocks.specs.BlockCall.{areLengths, blockAnswer}
 use Rattle.block_call.proofs.answer.Statement.{statement}
 use Rattle.block_call.proofs.answer.Tie as tie
 

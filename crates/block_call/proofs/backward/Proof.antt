@@ -4,8 +4,8 @@ use borrow.Author.Needs.{needs}
 use lib.ListN.{length}
 use Rattle.lsh.specs.Block.{backward, backwards}
 use Rattle.answers.proofs.Output.{refused-output}
-use Rattle.block_call.specs.BlockCall.{blockAnswer, runBytes}
-use Rattle.block_call.proofs.Answers.{accepted, one-run}
+use Rattle.blocks.specs.BlockCall.{blockAnswer, runBytes}
+use Rattle.blocks.proofs.Answers.{accepted, one-run}
 use Rattle.block_call.proofs.backward.Statement.{statement}
 use Rattle.block_call.proofs.backward.Tie as tie
 

@@ -14,8 +14,8 @@ use Rattle.lsh.proofs.Figures.{amounts}
 use Rattle.lsh.proofs.Block.{forward-chain, backward-chain, backward-forward, forward-backward}
 use Rattle.lsh.proofs.Bytes.{octets, words-chain, chain-bytes, length-chain, words-of-bytes, bytes-of-words}
 use Rattle.answers.proofs.Output.{refused-output}
-use Rattle.block_call.specs.BlockCall.{blockAnswer, runBytes, forwardBytes, backwardBytes}
-use Rattle.block_call.proofs.Answers.{accepted, accepted-run}
+use Rattle.blocks.specs.BlockCall.{blockAnswer, runBytes, forwardBytes, backwardBytes}
+use Rattle.blocks.proofs.Answers.{accepted, accepted-run}
 
 -- a run, and one that undoes it on words
 module _ (w : ℕ) (run back : WordSize → List ℕ → List ℕ → List ℕ)

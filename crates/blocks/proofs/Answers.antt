@@ -16,7 +16,7 @@ use Rattle.lsh.proofs.Figures.{block-some}
 use Rattle.lsh.proofs.Padding.{one-block}
 use Rattle.answers.proofs.Tests.{test, passed}
 use Rattle.answers.proofs.Output.{written-output}
-use Rattle.block_call.specs.BlockCall.{areLengths, blockAnswer, runBytes}
+use Rattle.blocks.specs.BlockCall.{areLengths, blockAnswer, runBytes}
 
 -- an accepted call: w is a word size, and the lengths are right
 pub record Accepted (w c b : ℕ) : Type 0 where
