@@ -2,27 +2,25 @@
 -- Assumes nothing.
 use mathlib.Core.Path.{_≡_, refl, sym, ap, ap₂, _∙_, subst}
 use mathlib.Core.Bool.{true}
-use mathlib.Core.List.{List, [], _∷_, _++_, append-assoc}
+use mathlib.Core.List.{List, [], _∷_, _++_}
 use Prim.Native.Nat.{ℕ, _+_, _-_, _*_, _/_, _%_, _≤_, _<_, zero-le}
-use native.Mathlib.Nat.{add-zero, add-assoc, mul-assoc, mul-mod-left, mul-div-cancel, mul-add-div-right, add-mul-div-right, div-add-mod', div-le-self}
+use native.Mathlib.Nat.{add-zero, add-assoc, mul-assoc, mul-mod-left, mul-div-cancel, add-mul-div-right, div-le-self}
 use native.Mathlib.Omega.{arith}
 use lib.ListN.{length, take, drop, length-append, length-drop, take-append-drop}
 use lib.Seq.{length-take-le, take-add, take-all, take-length}
 use Rattle.lsh.specs.WordSize.{WordSize, sizeOf, blockBytes}
 use Rattle.lsh.specs.Block.{Chain, forwards}
 use Rattle.lsh.specs.Padding.{blocksOf, restOf}
-use Rattle.lsh.specs.Chains.{chainAfter}
 use Rattle.lsh.proofs.Figures.{block-some}
 use Rattle.lsh.proofs.Bytes.{octets}
 use Rattle.lsh.proofs.Padding.{length-rest, rest-none}
-use Rattle.lsh.proofs.Chains.{after-all, after-front}
 use Rattle.limits.specs.Limits.{longestBlock}
 use Rattle.orders.specs.declared.Record.{Record}
 use Rattle.orders.specs.declared.Outcome.{Outcome}
 use Rattle.orders.specs.Record.{heldOf, heldBytes, sound}
 use Rattle.orders.proofs.Sound.{sounds}
 use Rattle.orders.specs.Append.{appended, appendAccepted}
-use Rattle.orders.proofs.AfterPiece.{total-is, rest-length, held-after}
+use Rattle.orders.proofs.AfterPiece.{rest-length, held-after}
 use Rattle.orders.proofs.Joins.{append-joins}
 use Rattle.orders.proofs.AppendedSound.{appended-chain, appended-sound}
 use Rattle.roll.specs.declared.Traversal.{Traversal}

@@ -7,7 +7,7 @@ use native.Mathlib.Nat.{zero-mul, suc-mul, mul-le-mul-right, not-suc-le-zero}
 use native.Mathlib.Numerals.{add-one}
 use native.Mathlib.Decide.{decLt}
 use native.Mathlib.Omega.{arith}
-use lib.Arith.{digits-lt, digits-div, digits-mod}
+use lib.Arith.{digits-div, digits-mod}
 use lib.ListN.{length}
 use lib.Seq.{sets, length-sets}
 use Rattle.lsh.specs.Tabulate.{at, tabulate}

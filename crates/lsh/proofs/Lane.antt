@@ -1,6 +1,6 @@
 -- A mixing lane is undone, and undoes, for every word size, every amount and every constant.
 -- Assumes nothing.
-use mathlib.Core.Path.{_≡_, refl, sym, ap, ap₂, _∙_}
+use mathlib.Core.Path.{_≡_}
 use Prim.Native.Nat.{ℕ, _^_, _≤_, _<_}
 use Rattle.lsh.specs.Word.{add, subtract, rotateLeft, rotateRight, xor}
 use Rattle.lsh.specs.Lane.{Lane, mixLane, unmixLane}

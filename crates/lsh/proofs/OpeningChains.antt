@@ -1,7 +1,7 @@
 -- The opening chains that the paper prints: (16) of LSH-256-256 and (17) of LSH-512-512, by computation.
 -- Assumes nothing.
 use mathlib.Core.Path.{_≡_, refl}
-use mathlib.Core.List.{List, [], _∷_, _++_}
+use mathlib.Core.List.{[], _∷_}
 use Rattle.lsh.specs.Tabulate.{tabulate, tabulateFrom}
 use Rattle.lsh.specs.Word.{add, turn, rotateLeft, xor}
 use Rattle.lsh.specs.WordSize.{lsh256, lsh512, alpha, beta, gamma, tau, sigma}

@@ -2,7 +2,7 @@
 -- Assumes nothing.
 use mathlib.Core.Path.{_≡_, ap, ap₂, _∙_}
 use mathlib.Core.List.{List}
-use Prim.Native.Nat.{ℕ, _+_, _^_, _≤_, _<_}
+use Prim.Native.Nat.{ℕ, _+_, _^_, _<_}
 use native.Mathlib.Nat.{le-of-lt}
 use lib.ListN.{length}
 use lib.Pow.{pow-pos}
@@ -16,7 +16,7 @@ use Rattle.lsh.specs.Block.{Chain}
 use Rattle.lsh.proofs.Word.{xor-xor, xor-lt}
 use Rattle.lsh.proofs.Lane.{Below, mix-below, unmix-below, mix-unmix, unmix-mix}
 use Rattle.lsh.proofs.Figures.{Amounts}
-use Rattle.lsh.proofs.Permutation.{Permutation, sigma-permutes}
+use Rattle.lsh.proofs.Permutation.{sigma-permutes}
 use Rattle.lsh.proofs.Tabulate.{length-tabulate, at-tabulate, tabulate-ext, tabulate-all, length-lanes, lanes-x, lanes-y, lanes-ext, lanes-all}
 
 pub tabulate-chain : (z : WordSize) (f : ℕ → ℕ) → ((k : ℕ) → k < 16 → f k < 2 ^ z .bits) → Chain z (tabulate 16 f)

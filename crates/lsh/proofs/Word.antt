@@ -1,8 +1,8 @@
 -- The laws of the operations on words, for every word size w.
 -- Assumes nothing.
-use mathlib.Core.Path.{_≡_, refl, sym, ap, ap₂, _∙_, subst}
+use mathlib.Core.Path.{_≡_, sym, ap, ap₂, _∙_}
 use Prim.Native.Nat.{ℕ, zero, suc, _+_, _-_, _*_, _/_, _%_, _^_, _≤_, _<_}
-use native.Mathlib.Nat.{mod-lt, mod-eq-of-lt, mod-add-mod, add-mod, add-mod-mod, add-mod-right, add-assoc, mul-add-mod-self-right, div-add-mod', sub-add-cancel, pow-suc}
+use native.Mathlib.Nat.{mod-lt, mod-eq-of-lt, mod-add-mod, add-mod-right, div-add-mod', pow-suc}
 use native.Mathlib.Omega.{arith}
 use lib.Arith.{digits-lt, digits-div, lt-one}
 use lib.Pow.{pow-pos, pow-add, low, high, split, shr-lt}

@@ -6,7 +6,6 @@ use Prim.Native.Nat.{ℕ, zero, suc, _+_, _-_, _*_, _/_}
 use lib.ListN.{length, take, drop, replicate}
 use Rattle.lsh.specs.WordSize.{WordSize, blockBytes}
 use Rattle.lsh.specs.Bytes.{wordsOf}
-use Rattle.lsh.specs.Bits.{bytesOfBits}
 
 -- the bits of a block, 32w
 unfoldable pub blockBits : WordSize → ℕ

@@ -2,7 +2,6 @@
 ghost use mathlib.Core.Path.{_≡_};
 ghost use mathlib.Core.Bool.{true};
 ghost use Prim.Native.Nat.{_+_, _^_};
-ghost use lib.ListN.{length};
 ghost use Rattle.lsh.specs.WordSize.{isWordSize};
 ghost use Rattle.limits.specs.Limits.{isDigestLength};
 ghost use Rattle.lists.specs.Lists.{allBelow, allZero};

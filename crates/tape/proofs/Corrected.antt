@@ -16,7 +16,7 @@ use Rattle.orders.specs.Open.{openCall}
 use Rattle.tape.specs.Sequence.{answers}
 use Rattle.tape.specs.Tape.{Lent, Tape, plain, wholeBlocks}
 use Rattle.tape.specs.TapeRecord.{tapeRecord}
-use Rattle.tape.specs.Calls.{Call, Append, Rewind, Order, orderCall, tapeCall, HandsBack, forwardCount, backwardCount}
+use Rattle.tape.specs.Calls.{Call, Order, orderCall, tapeCall, HandsBack, forwardCount, backwardCount}
 use Rattle.tape.specs.Orders.{newOrder, orderAfter, orderAnswers, tapeAfter, tapeAnswers, Premise}
 use Rattle.tape.specs.Corrected.{Corrected}
 use Rattle.tape.specs.ByLength.{allByLength}

@@ -7,7 +7,6 @@ use native.Mathlib.Omega.{arith}
 use lib.ListN.{length, length-append}
 use Rattle.lsh.specs.ByteString.{ByteString}
 use Rattle.orders.specs.declared.Record.{Record}
-use Rattle.orders.specs.Record.{refused}
 use Rattle.tags.specs.Hmac.{innerKey}
 use Rattle.tags.specs.KeyAnswer.{tagAnswer}
 use Rattle.tags.specs.Tag.{tagOutput}

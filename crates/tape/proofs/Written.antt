@@ -7,7 +7,7 @@ use native.Mathlib.Omega.{arith}
 use lib.ListN.{length, take, drop}
 use Rattle.lsh.specs.Hash.{hash, lsh}
 use Rattle.answers.proofs.Output.{written-is}
-use Rattle.receipts.specs.Receipt.{receiptBytes, receipt}
+use Rattle.receipts.specs.Receipt.{receiptBytes}
 use Rattle.receipts.specs.Ending.{messageBits, mostBits}
 use Rattle.receipts.proofs.Ending.{message-length}
 use Rattle.orders.specs.declared.Record.{Record}

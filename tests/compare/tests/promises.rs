@@ -125,6 +125,43 @@ fn statements_name_what_stands_in_specs() {
     }
 }
 
+/// Whether a text of Rattle has a function.
+fn has_code(text: &str) -> bool {
+    text.lines().any(|line| !line.trim_start().starts_with("//") && line.split_whitespace().any(|word| word == "fn"))
+}
+
+/// The crates on which a crate rests, itself too, by the lines "NAME: DEP DEP" of crates.txt.
+fn rests_on<'a>(list: &'a str, name: &'a str) -> BTreeSet<&'a str> {
+    let mut found = BTreeSet::from([name]);
+    let mut next = vec![name];
+    while let Some(name) = next.pop() {
+        let line = list.lines().find_map(|line| line.strip_prefix(name)?.strip_prefix(':'));
+        let deps = line.unwrap_or_else(|| panic!("crates.txt has no {name}")).split_whitespace();
+        next.extend(deps.filter(|dep| found.insert(*dep)));
+    }
+    found
+}
+
+#[test]
+fn definitions_and_theorems_rest_on_no_code() {
+    let list = fs::read_to_string(repository().join("crates.txt")).unwrap();
+    for (quotation, _) in quoted().iter().filter(|(quotation, _)| quotation.file.ends_with(".antt")) {
+        for name in rests_on(&list, quotation.file.split('/').nth(1).unwrap()) {
+            let source = fs::read_to_string(repository().join("crates").join(name).join("src/lib.rt")).unwrap();
+            assert!(!has_code(&source), "{} rests on crates/{name}, which has code", quotation.file);
+        }
+    }
+}
+
+#[test]
+fn code_below_a_definition_is_found() {
+    assert!(has_code("// no fn here\npub extern \"C\" fn f() {"));
+    assert!(!has_code("// No fn.\npub struct S {\n    pub n: u64,\n}"));
+    let list = "# a comment\na:\nab: a\nc: ab\n";
+    assert_eq!(rests_on(list, "c"), BTreeSet::from(["a", "ab", "c"]));
+    assert_eq!(rests_on(list, "a"), BTreeSet::from(["a"]));
+}
+
 fn quotation(lines: &[&str]) -> Quotation {
     Quotation { file: "a file".to_string(), lines: lines.iter().map(|line| line.to_string()).collect() }
 }

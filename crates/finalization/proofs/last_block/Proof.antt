@@ -1,8 +1,6 @@
 -- `finalization::last_block` meets its contract. Assumes nothing.
 use native.Mathlib.Omega.{arith}
-use lib.ListN.{length}
 use borrow.Author.Needs.{needs}
-use Rattle.limits.specs.Limits.{longestBlock}
 use Rattle.finalization.proofs.LastBlock.{stored-block}
 use Rattle.finalization.proofs.last_block.Statement.{statement}
 use Rattle.finalization.proofs.last_block.Tie as tie

@@ -1,8 +1,7 @@
 -- `lsh512::load_block` meets its contract. Assumes nothing.
-use mathlib.Core.Path.{_≡_, _∙_}
+use mathlib.Core.Path.{_≡_}
 use Prim.Native.Nat.{_-_, _*_}
 use native.Mathlib.Omega.{arith}
-use borrow.Author.Needs.{needs}
 use lib.ListN.{length}
 use Rattle.lsh.specs.WordSize.{lsh512, wordBytes, blockBytes}
 use Rattle.lsh.specs.Bytes.{wordAt, wordsOf}

@@ -1,9 +1,7 @@
 -- `script::chain_of` meets its contract: before turn l the first l words are stored. Assumes nothing.
-use mathlib.Core.Path.{_≡_, refl}
+use mathlib.Core.Path.{refl}
 use Prim.Native.Nat.{_-_, _*_}
 use native.Mathlib.Omega.{arith}
-use lib.ListN.{length}
-use borrow.Author.Needs.{needs}
 use Rattle.loops.proofs.Places.{Placed, placed-none, filled-more, filled-all}
 use Rattle.script.specs.Numbers.{highestFirst}
 use Rattle.script.proofs.chain_of.Statement.{statement}
