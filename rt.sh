@@ -6,3 +6,5 @@ if [ -z "${TMPDIR-}" ] && [ "$(df --output=avail -m /dev/shm 2>/dev/null | tail 
     ! grep -q ' /dev/shm .*\<noexec\>' /proc/mounts; then
     export TMPDIR=/dev/shm
 fi
+# rt proves crates of one layer side by side and waits for all of them, so that with one check to a processor a long one leaves the others idle.
+export RT_JOBS=${RT_JOBS:-4}

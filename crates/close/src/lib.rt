@@ -10,10 +10,11 @@ ghost use Rattle.lsh.specs.Hash.{digest};
 ghost use Rattle.orders.specs.Record.{sound};
 ghost use Rattle.receipts.specs.Close.{closeAnswer, closedDigest, closeOutput};
 use limits::LONGEST_BLOCK;
+use orders::Record;
 
 // Writes the receipt of the record's bytes and the top e bits of the last byte, if the answer is 0. The record is not changed, so
 // more can be appended to it.
-pub fn close(r: orders::Record, last: u8, e: u64, output: &mut [u8]) -> u32
+pub fn close(r: Record, last: u8, e: u64, output: &mut [u8]) -> u32
     ensures { λ a. ⌜ (a ≡ closeAnswer r last e (length (now (output .entry)))) × (now (output .exit) ≡ closeOutput r last e (now (output .entry))) ⌝ }
 {
     let a = answer(r, last, e, output.len());
@@ -29,7 +30,7 @@ pub fn close(r: orders::Record, last: u8, e: u64, output: &mut [u8]) -> u32
 }
 
 // The bytes of the digest that the record gives without extra bits, and others after them.
-pub fn digest_bytes(r: orders::Record) -> [u8; LONGEST_BLOCK]
+pub fn digest_bytes(r: Record) -> [u8; LONGEST_BLOCK]
     requires { ⌜ sound r ≡ true ⌝ }
     ensures { λ d. ⌜ take ((r .n + 7) / 8) d ≡ bytesOfBits (closedDigest r 0 0) ⌝ }
 {
@@ -40,7 +41,7 @@ pub fn digest_bytes(r: orders::Record) -> [u8; LONGEST_BLOCK]
 }
 
 // The answer to a call. Nothing is hashed before it is known.
-fn answer(r: orders::Record, last: u8, e: u64, size: usize) -> u32
+fn answer(r: Record, last: u8, e: u64, size: usize) -> u32
     ensures { λ a. ⌜ a ≡ closeAnswer r last e size ⌝ }
 {
     if !record::is_sound(r) {
@@ -50,7 +51,7 @@ fn answer(r: orders::Record, last: u8, e: u64, size: usize) -> u32
 }
 
 // The chain after the last block, which is the bytes held and the top e bits of the last byte, padded.
-fn final_chain(r: orders::Record, last: u8, e: u32) -> [u64; 16]
+fn final_chain(r: Record, last: u8, e: u32) -> [u64; 16]
     requires { ⌜ (sound r ≡ true) × (e ≤ 7) × (last % 2 ^ (8 - e) ≡ 0) ⌝ }
     ensures { λ t. ⌜ Chain (sizeOf (r .w)) t × (digest (sizeOf (r .w)) (r .n) t ≡ closedDigest r last e) ⌝ }
 {
