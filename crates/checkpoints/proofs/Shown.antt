@@ -251,18 +251,22 @@ module _ (z : WordSize) (ok : Octets z) (s : List ℕ) (is : isRoll z s ≡ true
       cut-roll : isRoll z C ≡ true
       cut-roll = is-roll z C (take m L) cut-right cut-traversal (repeats-take eqb m L (have .distinct)) cut-within
 
+      cut-chains : (j : ℕ) → 0 < j → chainIn z C j ≡ chainIn z s j
+      cut-chains = chain-kept z ok k s (sizes .size) at-m m-within 0
+
       cut-shown : shown z C ≡ take m (shown z s)
       unfolding shown
       cut-shown =
           ap (checkpointsIn z C 1) cut-links
-          ∙ in-same z C s 1 (take m L) (λ x h. chain-kept z ok k s (sizes .size) at-m m-within 0 x (have .within x (one-take eqb x m L h) .0))
+          ∙ in-same z C s 1 (take m L) (λ x h. cut-chains x (have .within x (one-take eqb x m L h) .0))
           ∙ in-take z s 1 m L
 
-    -- a roll of the same length, that shows the first m checkpoints
+    -- a roll of the same length, that shows the first m checkpoints, and whose slots, linked or not, keep their chains
     pub record Cut (u : List ℕ) : Type 0 where
       pub size : length u ≡ length s
       pub roll : isRoll z u ≡ true
       pub shows : shown z u ≡ take m (shown z s)
+      pub chains : (j : ℕ) → 0 < j → chainIn z u j ≡ chainIn z s j
 
     pub unlinked-cut : Cut (unlinked z m s)
     unfolding unlinked leadTo
@@ -271,12 +275,13 @@ module _ (z : WordSize) (ok : Octets z) (s : List ℕ) (is : isRoll z s ≡ true
         go : (b : Bool) → ltb m (length L) ≡ b → Cut (cond b (withIndex z s (at (0 ∷ L) m) 0) s)
         go true e =
             let less : m < length L = ltb-true m (length L) e in
-            record { size = cut-length less; roll = cut-roll less; shows = cut-shown less }
+            record { size = cut-length less; roll = cut-roll less; shows = cut-shown less; chains = cut-chains less }
         go false e =
             record {
               size = refl;
               roll = is;
               shows = sym (take-all m (shown z s) (omega (arith, shown-many z s, ltb-false m (length L) e)));
+              chains = λ j some. refl;
             }
 
 -- d checkpoints inserted one after the other behind m links, with the chains f

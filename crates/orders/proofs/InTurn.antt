@@ -29,6 +29,11 @@ module _ (answer : ℕ) (r : Record) (rest : Outcome) where
       go true none is = (eqb-true answer 0 none, refl)
       go false some is = absurd (false≢true (sym some ∙ eq-eqb answer 0 is))
 
+-- 3 comes before 17: an unsound record gets it in turn and out of turn
+pub unsound-first : (r : Record) (out : Bool) → sound r ≡ false → turnAnswer r out ≡ 3
+unfolding turnAnswer
+unsound-first r out not-sound = rw not-sound
+
 -- the tests of a call, by the answer a that the code works out from the test b
 module _ (r : Record) {a : ℕ} {b out : Bool} (which : b ≡ out) (is : a ≡ turnAnswer r b) where
   same-turn : a ≡ turnAnswer r out

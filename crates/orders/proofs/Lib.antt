@@ -12,4 +12,5 @@ pub mod Pieces
 pub mod Lengths
 pub mod Reached
 pub mod HandBacks
+pub mod Counts
 pub mod OneRewind

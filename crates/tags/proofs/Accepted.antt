@@ -45,6 +45,11 @@ bytewise-is : (n : ℕ) → isWholeBytes n ≡ true → n % 8 ≡ 0
 unfolding isWholeBytes
 bytewise-is n e = eqb-true (n % 8) 0 e
 
+-- 2 comes before 18: an n out of range gets it, a multiple of 8 or not
+pub range-first : (w n keyLength len : ℕ) → isWordSize w ≡ true → isDigestLength w n ≡ false → keyAnswer w n keyLength len ≡ 2
+unfolding keyAnswer
+range-first w n keyLength len word out = rw (word, out)
+
 pub keyed : (w n keyLength len : ℕ) → keyAnswer w n keyLength len ≡ 0 → Keyed w n keyLength len
 unfolding keyAnswer
 keyed w n keyLength len is =
