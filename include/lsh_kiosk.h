@@ -1,19 +1,36 @@
 /* LSH order fingerprints for print kiosks: the calls for C.
  *
- * Link with liblsh_kiosk.a alone; no other library is needed. Every call returns for every argument that the declarations below allow,
- * keeps no memory between calls, and reads and writes only the buffers that it is lent. A buffer is a pointer and its length in bytes.
- * A pointer may be anything where the length is 0, but must not be null. The buffers of one call do not overlap if one of them is
- * written. Records and answers pass by value: a call changes no record that it is given, and the caller keeps the one that it returns.
- * What each call answers and writes is proved for all arguments (docs/PROMISES.md). examples/order.c uses the calls for an order.
+ * C11 or C++17 is needed. Link with liblsh_kiosk.a, which wants memcpy and memset of the C library and nothing else. Every call returns for
+ * every argument that the declarations below allow, keeps no memory between calls, and reads and writes only the buffers that it is lent.
+ * A buffer is a pointer and its length in bytes. Where the length is 0, the pointer may be anything, null too, as an empty std::vector has it.
+ * The buffers of one call do not overlap if one of them is written. Records and answers pass by value: a call changes no record that it is
+ * given, and the caller keeps the one that it returns. What each call answers and writes is proved for all arguments (docs/PROMISES.md).
+ * examples/order.c uses the calls for an order.
  */
 #ifndef LSH_KIOSK_H
 #define LSH_KIOSK_H
+
+#if defined(__cplusplus) ? __cplusplus < 201703L : !defined(__STDC_VERSION__) || __STDC_VERSION__ < 201112L
+#error "lsh_kiosk.h needs C11 or later (-std=c11), or C++17 or later (-std=c++17)"
+#endif
 
 #include <assert.h>
 #include <stddef.h>
 #include <stdint.h>
 #ifndef __cplusplus
 #include <stdbool.h>
+#endif
+
+/* The version of the module: the archive, this header and the programs. */
+#define LSH_VERSION "1.7.0"
+
+/* On each function: the compiler warns where the answer is dropped, since the refusal would be dropped with it. */
+#if defined(__cplusplus) || __STDC_VERSION__ >= 202311L
+#define LSH_NODISCARD [[nodiscard]]
+#elif defined(__GNUC__)
+#define LSH_NODISCARD __attribute__((warn_unused_result))
+#else
+#define LSH_NODISCARD
 #endif
 
 #ifdef __cplusplus
@@ -25,25 +42,52 @@ extern "C" {
 /* What a call answers: 0, or why it refuses. Each call below names the refusals that it can give, in the order in which it tests them. A
  * refused call changes nothing. */
 #define LSH_ACCEPTED 0u
-#define LSH_BAD_WORD_SIZE 1u     /* w is neither 32 nor 64 */
-#define LSH_BAD_DIGEST_LENGTH 2u /* n is 0 or above 8w */
-#define LSH_UNSOUND_RECORD 3u    /* the record is not sound: see lsh_record */
-#define LSH_BAD_LENGTH 4u        /* a chain that is not 2w bytes or a block that is not 4w bytes */
-#define LSH_TOO_LONG 5u          /* a message, an order or a key of more than LSH_MOST_BYTES bytes, or a key's block and a message together */
-#define LSH_BAD_START 6u         /* bytes handed back that are longer than the order, or do not begin where a block begins; in a split rewind,
-                                  * not as many as the step takes, or no whole block is left to hand back */
-#define LSH_BAD_KEEP 7u          /* more bytes to keep than were handed back, or a block or more */
-#define LSH_HELD_DIFFER 8u       /* the last bytes handed back are not those that the record holds */
-#define LSH_OPENING_DIFFERS 9u   /* all of the order was handed back, and it does not lead back to the opening chain */
-#define LSH_BAD_EXTRA_BITS 10u   /* e is above 7 */
-#define LSH_BAD_LAST_BYTE 11u    /* one of the low 8 - e bits of the last byte is set */
-#define LSH_SHORT_OUTPUT 12u     /* an output of less than LSH_RECEIPT_BYTES bytes; for a tag, of less than LSH_TAG_BYTES(n) */
-#define LSH_NO_RECEIPTS 13u      /* not as many bytes as one receipt, or as a list of at most LSH_MOST_RECEIPTS receipts, has */
-#define LSH_MALFORMED 14u        /* a receipt that has not the form of one: see lsh_whole */
-#define LSH_BAD_ROLL 15u         /* a buffer that is no roll, or not the roll of such a record: see "an order with a roll" */
-#define LSH_FULL_ROLL 16u        /* the linked slots of the roll and the checkpoints due are together more than its slots */
-#define LSH_OUT_OF_TURN 17u      /* an Append, a Rewind or a begin while a split rewind is unfinished, or another step of one with none begun */
-#define LSH_NO_WHOLE_BYTES 18u   /* n is no multiple of 8, so a digest is not the whole bytes that a tag takes */
+#define LSH_BAD_WORD_SIZE 1u
+#define LSH_BAD_DIGEST_LENGTH 2u
+#define LSH_UNSOUND_RECORD 3u
+#define LSH_BAD_LENGTH 4u
+#define LSH_TOO_LONG 5u
+#define LSH_BAD_START 6u
+#define LSH_BAD_KEEP 7u
+#define LSH_HELD_DIFFER 8u
+#define LSH_OPENING_DIFFERS 9u
+#define LSH_BAD_EXTRA_BITS 10u
+#define LSH_BAD_LAST_BYTE 11u
+#define LSH_SHORT_OUTPUT 12u
+#define LSH_NO_RECEIPTS 13u
+#define LSH_MALFORMED 14u
+#define LSH_BAD_ROLL 15u
+#define LSH_FULL_ROLL 16u
+#define LSH_OUT_OF_TURN 17u
+#define LSH_NO_WHOLE_BYTES 18u
+
+/* What an answer means, in one line to be printed. lsh_record says what a sound record is, lsh_same what a malformed receipt is, and the
+ * section "an order with a roll" what a roll is. */
+LSH_NODISCARD static inline const char *lsh_meaning(uint32_t number)
+{
+    switch (number) {
+    case LSH_ACCEPTED: return "accepted";
+    case LSH_BAD_WORD_SIZE: return "the word size w is neither 32 nor 64";
+    case LSH_BAD_DIGEST_LENGTH: return "the digest length n is 0 or above 8w";
+    case LSH_UNSOUND_RECORD: return "the record is not sound: no order was begun with it, or it was damaged";
+    case LSH_BAD_LENGTH: return "the chain does not have 2w bytes, or the block does not have 4w";
+    case LSH_TOO_LONG: return "the order, the message or the key would have more than 2^40 bytes, or the message and the block of its key together";
+    case LSH_BAD_START: return "the bytes handed back begin inside a block, are more than the order has left, or are not as many as the step takes";
+    case LSH_BAD_KEEP: return "more bytes are to be kept than were handed back, or a block or more";
+    case LSH_HELD_DIFFER: return "the last bytes handed back are not those that the record holds";
+    case LSH_OPENING_DIFFERS: return "the whole order was handed back, and it does not lead back to the opening chain";
+    case LSH_BAD_EXTRA_BITS: return "the number e of extra bits is above 7";
+    case LSH_BAD_LAST_BYTE: return "one of the low 8 - e bits of the last byte is set";
+    case LSH_SHORT_OUTPUT: return "the output is too short for the receipt or the tag";
+    case LSH_NO_RECEIPTS: return "not as many bytes as a receipt has; in a list, no whole number of receipts, or too many of them";
+    case LSH_MALFORMED: return "a receipt is malformed: no call writes such bytes";
+    case LSH_BAD_ROLL: return "the buffer is no roll, or does not have the checkpoints of an order of this length";
+    case LSH_FULL_ROLL: return "the roll has fewer free slots than checkpoints are due";
+    case LSH_OUT_OF_TURN: return "an append, a rewind or a begin while a split rewind is unfinished, or another step of one while none is begun";
+    case LSH_NO_WHOLE_BYTES: return "the digest length n is no multiple of 8, so a digest is not the whole bytes that a tag takes";
+    default: return "no call answers this number";
+    }
+}
 
 /* ---- figures ---- */
 
@@ -142,8 +186,8 @@ static_assert(offsetof(lsh_counts, number) == 0 && offsetof(lsh_counts, place) =
 
 /* Runs one block forward on a chain, or backward: each undoes the other. The chain is 16 words of w bits, lowest byte first.
  * Answers 0 and replaces the chain, or answers LSH_BAD_WORD_SIZE or LSH_BAD_LENGTH, tested in that order, and changes nothing. */
-uint32_t lsh_block_forward(uint64_t w, uint8_t *chain, size_t chain_len, const uint8_t *block, size_t block_len);
-uint32_t lsh_block_backward(uint64_t w, uint8_t *chain, size_t chain_len, const uint8_t *block, size_t block_len);
+LSH_NODISCARD uint32_t lsh_block_forward(uint64_t w, uint8_t *chain, size_t chain_len, const uint8_t *block, size_t block_len);
+LSH_NODISCARD uint32_t lsh_block_backward(uint64_t w, uint8_t *chain, size_t chain_len, const uint8_t *block, size_t block_len);
 
 /* ---- an order ---- */
 
@@ -151,12 +195,12 @@ uint32_t lsh_block_backward(uint64_t w, uint8_t *chain, size_t chain_len, const 
  * definition.
  * Answers 0 with the record of an order of no bytes; or answers LSH_BAD_WORD_SIZE or LSH_BAD_DIGEST_LENGTH, tested in that order, with a
  * record of zeros, which every other call refuses. The count is 0. */
-lsh_outcome lsh_open(uint64_t w, uint64_t n);
+LSH_NODISCARD lsh_outcome lsh_open(uint64_t w, uint64_t n);
 
 /* Adds a piece of any length to the end of an order.
  * Answers 0 with the record of the longer order and the number of blocks that were run forward: the whole blocks of the order after the
  * piece less those before it. Or answers LSH_UNSOUND_RECORD, LSH_OUT_OF_TURN or LSH_TOO_LONG, tested in that order. */
-lsh_outcome lsh_append(lsh_record r, const uint8_t *piece, size_t piece_len);
+LSH_NODISCARD lsh_outcome lsh_append(lsh_record r, const uint8_t *piece, size_t piece_len);
 
 /* Takes bytes off the end of an order. h are the last bytes of the order, from a place on where a block begins (a multiple of 4w); the
  * first `keep` of them remain, less than a block. To cut an order to c bytes, keep is c mod 4w and h is what the order has from place
@@ -164,14 +208,14 @@ lsh_outcome lsh_append(lsh_record r, const uint8_t *piece, size_t piece_len);
  * Answers 0 with the record of the shorter order and the number of blocks that were run backward: the whole blocks of h. Or answers
  * LSH_UNSOUND_RECORD, LSH_OUT_OF_TURN, LSH_BAD_START, LSH_BAD_KEEP, LSH_HELD_DIFFER or LSH_OPENING_DIFFERS, tested in that order. Hand back
  * what was appended: other bytes are taken where none of these tests shows them, and the record that follows is then not that of the order. */
-lsh_outcome lsh_rewind(lsh_record r, uint64_t keep, const uint8_t *h, size_t h_len);
+LSH_NODISCARD lsh_outcome lsh_rewind(lsh_record r, uint64_t keep, const uint8_t *h, size_t h_len);
 
 /* Writes the receipt of an order: its bytes, and then the top e bits of one more byte, `last`. Where the order is a whole number of bytes,
  * last and e are 0. The receipt is the one that lsh_whole writes for these bytes. The order may go on after it. While a split rewind is
  * unfinished, the order is that before the rewind.
  * Answers 0 and writes the first LSH_RECEIPT_BYTES bytes of the output, and no other; or answers LSH_UNSOUND_RECORD, LSH_BAD_EXTRA_BITS,
  * LSH_BAD_LAST_BYTE or LSH_SHORT_OUTPUT, tested in that order, and changes nothing. */
-uint32_t lsh_close(lsh_record r, uint8_t last, uint64_t e, uint8_t *output, size_t output_len);
+LSH_NODISCARD uint32_t lsh_close(lsh_record r, uint8_t last, uint64_t e, uint8_t *output, size_t output_len);
 
 /* ---- a rewind that is split into steps ---- */
 
@@ -182,23 +226,23 @@ uint32_t lsh_close(lsh_record r, uint8_t last, uint64_t e, uint8_t *output, size
 
 /* Begins a split rewind. `bytes` are those that the order has since its last whole block, as many as (total mod 4w); they may be none.
  * Answers 0; or LSH_UNSOUND_RECORD, LSH_OUT_OF_TURN, LSH_BAD_START or LSH_HELD_DIFFER, tested in that order. */
-lsh_outcome lsh_begin(lsh_record r, const uint8_t *bytes, size_t bytes_len);
+LSH_NODISCARD lsh_outcome lsh_begin(lsh_record r, const uint8_t *bytes, size_t bytes_len);
 
 /* Hands back one block of 4w bytes: the order's last whole block that was not yet handed back.
  * Answers 0; or LSH_UNSOUND_RECORD, LSH_OUT_OF_TURN or LSH_BAD_START, tested in that order. Another block than the order has there is taken,
  * and what lsh_end gives is then not the order. */
-lsh_outcome lsh_hand_back(lsh_record r, const uint8_t *block, size_t block_len);
+LSH_NODISCARD lsh_outcome lsh_hand_back(lsh_record r, const uint8_t *block, size_t block_len);
 
 /* Ends a split rewind. The first `keep` bytes of the block handed back last remain, or of the held bytes if none was: to cut an order to c
  * bytes, hand back the blocks down to the one that begins at c - keep, where keep is c mod 4w (the held bytes alone, if that is where they
  * begin).
  * Answers 0 with the record and the count that one lsh_rewind over all these bytes gives. Or answers LSH_UNSOUND_RECORD, LSH_OUT_OF_TURN,
  * LSH_BAD_KEEP or LSH_OPENING_DIFFERS, tested in that order; the split rewind is then still begun. */
-lsh_outcome lsh_end(lsh_record r, uint64_t keep);
+LSH_NODISCARD lsh_outcome lsh_end(lsh_record r, uint64_t keep);
 
 /* Abandons a split rewind: the record is again the one that lsh_begin was given.
  * Answers 0; or LSH_UNSOUND_RECORD or LSH_OUT_OF_TURN, tested in that order. */
-lsh_outcome lsh_abandon(lsh_record r);
+LSH_NODISCARD lsh_outcome lsh_abandon(lsh_record r);
 
 /* ---- an order with a roll ---- */
 
@@ -230,20 +274,20 @@ lsh_outcome lsh_abandon(lsh_record r);
  * head. No other byte of the roll is written.
  * Answers 0 with the record and the count that lsh_append gives. Or answers LSH_UNSOUND_RECORD, LSH_OUT_OF_TURN, LSH_BAD_ROLL, LSH_TOO_LONG
  * or LSH_FULL_ROLL, tested in that order, and changes no byte of the roll. */
-lsh_outcome lsh_append_roll(lsh_record r, const uint8_t *piece, size_t piece_len, uint8_t *roll, size_t roll_len);
+LSH_NODISCARD lsh_outcome lsh_append_roll(lsh_record r, const uint8_t *piece, size_t piece_len, uint8_t *roll, size_t roll_len);
 
 /* Takes bytes off the end of an order with a roll, as lsh_rewind does, and unlinks the checkpoints past the new end; one at the end itself
  * stays. If there are any, the index that led to the first slot unlinked becomes 0, and the slots serve again. No other byte of the roll is
  * written.
  * Answers 0 with the record and the count that lsh_rewind gives. Or answers LSH_UNSOUND_RECORD, LSH_OUT_OF_TURN, LSH_BAD_ROLL, LSH_BAD_START,
  * LSH_BAD_KEEP, LSH_HELD_DIFFER or LSH_OPENING_DIFFERS, tested in that order, and changes no byte of the roll. */
-lsh_outcome lsh_rewind_roll(lsh_record r, uint64_t keep, const uint8_t *h, size_t h_len, uint8_t *roll, size_t roll_len);
+LSH_NODISCARD lsh_outcome lsh_rewind_roll(lsh_record r, uint64_t keep, const uint8_t *h, size_t h_len, uint8_t *roll, size_t roll_len);
 
 /* Ends a split rewind of an order with a roll, as lsh_end does, and unlinks the checkpoints past the new end, as lsh_rewind_roll does. The
  * other steps take no roll.
  * Answers 0 with the record and the count that lsh_end gives. Or answers LSH_UNSOUND_RECORD, LSH_OUT_OF_TURN, LSH_BAD_ROLL, LSH_BAD_KEEP or
  * LSH_OPENING_DIFFERS, tested in that order, and changes no byte of the roll. */
-lsh_outcome lsh_end_roll(lsh_record r, uint64_t keep, uint8_t *roll, size_t roll_len);
+LSH_NODISCARD lsh_outcome lsh_end_roll(lsh_record r, uint64_t keep, uint8_t *roll, size_t roll_len);
 
 /* ---- one message ---- */
 
@@ -258,8 +302,8 @@ lsh_outcome lsh_end_roll(lsh_record r, uint64_t keep, uint8_t *roll, size_t roll
  *
  * Answers 0 and writes the first LSH_RECEIPT_BYTES bytes of the output, and no other; or answers LSH_BAD_WORD_SIZE, LSH_BAD_DIGEST_LENGTH,
  * LSH_TOO_LONG, LSH_BAD_EXTRA_BITS, LSH_BAD_LAST_BYTE or LSH_SHORT_OUTPUT, tested in that order, and changes nothing. */
-uint32_t lsh_whole(uint64_t w, uint64_t n, const uint8_t *message, size_t message_len, uint8_t last, uint64_t e, uint8_t *output,
-                   size_t output_len);
+LSH_NODISCARD uint32_t lsh_whole(uint64_t w, uint64_t n, const uint8_t *message, size_t message_len, uint8_t last, uint64_t e, uint8_t *output,
+                                 size_t output_len);
 
 /* ---- tags with a key ---- */
 
@@ -272,8 +316,8 @@ uint32_t lsh_whole(uint64_t w, uint64_t n, const uint8_t *message, size_t messag
 /* Writes the tag of one message.
  * Answers 0 and writes the first LSH_TAG_BYTES(n) bytes of the output, and no other; or answers LSH_BAD_WORD_SIZE, LSH_BAD_DIGEST_LENGTH,
  * LSH_NO_WHOLE_BYTES, LSH_TOO_LONG or LSH_SHORT_OUTPUT, tested in that order, and changes nothing. */
-uint32_t lsh_tag(uint64_t w, uint64_t n, const uint8_t *key, size_t key_len, const uint8_t *message, size_t message_len, uint8_t *output,
-                 size_t output_len);
+LSH_NODISCARD uint32_t lsh_tag(uint64_t w, uint64_t n, const uint8_t *key, size_t key_len, const uint8_t *message, size_t message_len,
+                               uint8_t *output, size_t output_len);
 
 /* Begins the tag of a message that comes in pieces: lsh_append adds each of them, and lsh_tag_finish writes the tag. With the same key at the
  * start and at the finish it is the tag of the joined pieces that were accepted. The record is that of an order which begins with the key's
@@ -281,20 +325,20 @@ uint32_t lsh_tag(uint64_t w, uint64_t n, const uint8_t *key, size_t key_len, con
  * Answers 0 with this record and a count of 1, for the key's block (those that are run for the digest of a long key are not counted); or
  * answers LSH_BAD_WORD_SIZE, LSH_BAD_DIGEST_LENGTH, LSH_NO_WHOLE_BYTES or LSH_TOO_LONG, tested in that order, with a record of zeros, which
  * every other call refuses, and a count of 0. */
-lsh_outcome lsh_tag_start(uint64_t w, uint64_t n, const uint8_t *key, size_t key_len);
+LSH_NODISCARD lsh_outcome lsh_tag_start(uint64_t w, uint64_t n, const uint8_t *key, size_t key_len);
 
 /* Writes the tag of the pieces appended since lsh_tag_start. The key is that of the start, which the record does not tell. The record is not
  * changed: more can be appended, and the tag written again. Every sound record is taken, also one from lsh_open and one with a split rewind
  * begun: the digest that lsh_close gives for it where last and e are 0 stands as the inner digest of HMAC.
  * Answers 0 and writes the first LSH_TAG_BYTES(r.n) bytes of the output, and no other; or answers LSH_UNSOUND_RECORD, LSH_NO_WHOLE_BYTES,
  * LSH_TOO_LONG (the key alone) or LSH_SHORT_OUTPUT, tested in that order, and changes nothing. */
-uint32_t lsh_tag_finish(lsh_record r, const uint8_t *key, size_t key_len, uint8_t *output, size_t output_len);
+LSH_NODISCARD uint32_t lsh_tag_finish(lsh_record r, const uint8_t *key, size_t key_len, uint8_t *output, size_t output_len);
 
 /* Tells whether a tag is the one that lsh_tag writes: all of its LSH_TAG_BYTES(n) bytes agree. Each of them is compared, whatever the others
  * are. A tag of another length is not refused: it gets a no.
  * Answers 0 and yes or no; or answers LSH_BAD_WORD_SIZE, LSH_BAD_DIGEST_LENGTH, LSH_NO_WHOLE_BYTES or LSH_TOO_LONG, tested in that order. */
-lsh_sameness lsh_tag_check(uint64_t w, uint64_t n, const uint8_t *key, size_t key_len, const uint8_t *message, size_t message_len,
-                           const uint8_t *tag, size_t tag_len);
+LSH_NODISCARD lsh_sameness lsh_tag_check(uint64_t w, uint64_t n, const uint8_t *key, size_t key_len, const uint8_t *message, size_t message_len,
+                                         const uint8_t *tag, size_t tag_len);
 
 /* ---- receipts ---- */
 
@@ -302,14 +346,14 @@ lsh_sameness lsh_tag_check(uint64_t w, uint64_t n, const uint8_t *key, size_t ke
  * that are not malformed are the same exactly if all their bytes agree.
  * Answers 0 and yes or no; or answers LSH_NO_RECEIPTS if one of the byte strings has not LSH_RECEIPT_BYTES bytes, then LSH_MALFORMED if one of
  * the receipts is malformed: a w, byte 1 or n that no receipt has, a bit after the digest's n that is set, or a length above LSH_MOST_BITS. */
-lsh_sameness lsh_same(const uint8_t *a, size_t a_len, const uint8_t *b, size_t b_len);
+LSH_NODISCARD lsh_sameness lsh_same(const uint8_t *a, size_t a_len, const uint8_t *b, size_t b_len);
 
 /* Counts a list of receipts, which stand end to end: a receipt of a message without bits is a blank. Any other is a first if no earlier one is
  * the same, and a reprint if some earlier one is. The three counts make up the number of receipts, and do not depend on the order in which these
  * stand; an empty list is accepted.
  * Answers 0 and the three counts; or answers LSH_NO_RECEIPTS if the length is no multiple of LSH_RECEIPT_BYTES or there are more than
  * LSH_MOST_RECEIPTS, then LSH_MALFORMED with the place of the first malformed receipt. */
-lsh_counts lsh_tally(const uint8_t *list, size_t list_len);
+LSH_NODISCARD lsh_counts lsh_tally(const uint8_t *list, size_t list_len);
 
 #ifdef __cplusplus
 }

@@ -1,9 +1,10 @@
 /* What the programs of this folder share: checks that are counted, random numbers, and buffers between guard bytes.
  * A program includes lsh_kiosk.h and defines two names before it includes this file: PROGRAM, its own name as a string,
- * and LARGEST, the bytes of the largest buffer that it lends. */
+ * and LARGEST, the bytes of the largest buffer between guard bytes that it lends. It is C and C++. */
 #ifndef CHECKS_H
 #define CHECKS_H
 
+#include <stdalign.h>
 #include <stdarg.h>
 #include <stdbool.h>
 #include <stdint.h>
@@ -140,17 +141,17 @@ static inline void put_length(uint8_t *receipt, uint64_t bits)
 
 /* A buffer to lend, the guard bytes around it, and a copy of all of them. */
 struct guarded {
-    _Alignas(ALIGNMENT) uint8_t bytes[GUARDED];
+    alignas(ALIGNMENT) uint8_t bytes[GUARDED];
     uint8_t copy[GUARDED];
     size_t start; /* of the buffer, in bytes */
 };
 
-static uint8_t *buffer(struct guarded *guarded)
+static inline uint8_t *buffer(struct guarded *guarded)
 {
     return guarded->bytes + guarded->start;
 }
 
-static void take_copy(struct guarded *guarded)
+static inline void take_copy(struct guarded *guarded)
 {
     memcpy(guarded->copy, guarded->bytes, GUARDED);
 }
@@ -161,7 +162,7 @@ static inline void put_back(struct guarded *guarded)
     memcpy(guarded->bytes, guarded->copy, GUARDED);
 }
 
-static void fill(struct guarded *guarded)
+static inline void fill(struct guarded *guarded)
 {
     guarded->start = GUARD + next_random() % ALIGNMENT;
     for (size_t i = 0; i < GUARDED; i++) {
@@ -179,7 +180,7 @@ static inline void *place_for_answer(struct guarded *guarded)
 }
 
 /* Whether all bytes are those of the copy, except for the first `writable` bytes of the buffer. */
-static bool kept_except(const struct guarded *guarded, size_t writable)
+static inline bool kept_except(const struct guarded *guarded, size_t writable)
 {
     size_t end = guarded->start + writable;
     return memcmp(guarded->bytes, guarded->copy, guarded->start) == 0

@@ -40,7 +40,7 @@ fn no_length() -> Length
     }
 }
 
-fn is_dash(word: &[u8]) -> bool
+pub fn is_dash(word: &[u8]) -> bool
     ensures { λ r. ⌜ r ≡ isDash (now (word .entry)) ⌝ }
 {
     if word.len() != 1 {
@@ -49,7 +49,7 @@ fn is_dash(word: &[u8]) -> bool
     word[0] == b'-'
 }
 
-fn is_hex_bytes(word: &[u8]) -> bool
+pub fn is_hex_bytes(word: &[u8]) -> bool
     ensures { λ r. ⌜ r ≡ isHexBytes (now (word .entry)) ⌝ }
 {
     if word.len() == 0 {
@@ -61,7 +61,7 @@ fn is_hex_bytes(word: &[u8]) -> bool
     all_hex(word)
 }
 
-fn all_hex(s: &[u8]) -> bool
+pub fn all_hex(s: &[u8]) -> bool
     ensures { λ r. ⌜ r ≡ allHex (now (s .entry)) ⌝ }
 {
     let mut i: usize = 0;

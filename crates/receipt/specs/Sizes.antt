@@ -3,15 +3,12 @@
 use Prim.Native.Nat.{ℕ, _+_, _*_}
 use Rattle.receipts.specs.Receipt.{receiptBytes}
 use Rattle.decimal.specs.Number.{mostDigits}
+use Rattle.program.specs.Sizes.{nameBytes}
 use Rattle.receipts.specs.Tally.{mostReceipts}
 
 -- the most receipts that a tally takes, end to end
 unfoldable pub listBytes : ℕ
 listBytes = mostReceipts * receiptBytes
-
--- the longest name of a file, which is what `io::buffer` has room for
-abbrev pub nameBytes : ℕ
-nameBytes = 4096
 
 -- the longest key, and one byte more
 abbrev pub keyRoom : ℕ
@@ -21,3 +18,7 @@ keyRoom = 65536 + 1
 -- `text::put_bytes` asks for one more
 unfoldable pub lineBytes : ℕ
 lineBytes = 1 + (2 * receiptBytes + 1) + (1 + mostDigits) + 2 + 2 * nameBytes + 1
+
+-- what a check says of a file, behind its name
+abbrev pub verdictBytes : ℕ
+verdictBytes = 32

@@ -1,99 +1,131 @@
-// The files that are named: of each its receipt, or its tag with a key.
+// The files that are named: of each its line, or the check of the lines in it.
 ghost use mathlib.Core.Path.{_≡_};
 ghost use Prim.Native.Nat.{_≤_};
 ghost use lib.ListN.{length};
-ghost use Rattle.receipt.specs.Sizes.{listBytes, nameBytes};
+ghost use Rattle.program.specs.Sizes.{nameBytes};
+ghost use Rattle.receipt.specs.Sizes.{listBytes};
+use crate::arguments;
+use crate::check;
+use crate::fingerprint;
 use crate::line;
-use crate::line::LONGEST;
 use crate::list;
-use crate::list::Made;
+use crate::messages;
 use crate::options::Asked;
-use crate::reading;
 use finalization::RECEIPT;
-use libc::STDERR_FILENO;
-use orders::Record;
+use program::status;
 
-// Prints the receipts, and their tally if it is asked for. With a key, which is not empty, it prints the tags.
-pub fn print(a: Asked, key: &[u8]) {
-    let opened = started(a, key);
+// How far the files are done.
+struct Progress {
+    // Whether all went well.
+    good: bool,
+    // Whether to go on: what was printed could be written.
+    on: bool,
+    // How many receipts are in the list.
+    count: usize,
+}
+
+// What was done with one argument.
+struct Done {
+    good: bool,
+    on: bool,
+    // The receipt of a file, if one was made and printed.
+    made: bool,
+    receipt: [u8; RECEIPT],
+}
+
+// Does what is asked for with each file, and answers how that ended. With a key, which is not empty, tags are made.
+pub fn all(a: Asked, key: &[u8]) -> u64 {
     let mut list = list::buffer();
-    let count = print_all(a, opened, key, &mut list);
-    if a.tally {
-        list::print_tally(&list, count);
+    let p = each(a, key, &mut list);
+    if a.tally & p.on {
+        return status::of(list::print_tally(&list, p.count) & p.good);
     }
+    status::of(p.good)
 }
 
-// The record to which each file is appended.
-fn started(a: Asked, key: &[u8]) -> Record {
-    if key.len() == 0 {
-        let o = record::open(a.w, a.n);
-        return o.next;
-    }
-    let o = tag::start(a.w, a.n, key);
-    o.next
-}
-
-// Prints the receipts of the files, puts them into the list as long as it has room, and answers how many there are. With a key it prints the tags,
-// and there are none.
-fn print_all(a: Asked, opened: Record, key: &[u8], list: &mut [u8]) -> usize
+fn each(a: Asked, key: &[u8], list: &mut [u8]) -> Progress
     requires { ⌜ listBytes ≡ length (now list) ⌝ }
 {
     let end = os::arg_count();
-    let mut count: usize = 0;
-    let mut i = a.first;
+    let mut p = Progress {
+        good: true,
+        on: true,
+        count: 0,
+    };
+    let mut t = program::arguments::start();
+    let mut i: usize = 1;
     while i < end {
-        count = list::keep(list, count, argument(a, opened, key, i));
+        t = arguments::next(t, i);
+        p = after(
+            p,
+            argument(a, key, p.on & (t.is == program::arguments::FILE), i),
+            list,
+        );
         i += 1;
     }
-    count
+    p
 }
 
-// Prints the receipt, or the tag, of the file that argument i names.
-fn argument(a: Asked, opened: Record, key: &[u8], i: usize) -> Made {
+// How far the files are done with one more. Its receipt is put into the list.
+fn after(p: Progress, d: Done, list: &mut [u8]) -> Progress
+    requires { ⌜ listBytes ≡ length (now list) ⌝ }
+{
+    let receipt = d.receipt;
+    let count = list::keep(list, p.count, d.made, receipt);
+    Progress {
+        good: p.good & d.good,
+        on: p.on & d.on,
+        count: count,
+    }
+}
+
+// Does what is asked for with the file that argument i names, if it is to be done.
+fn argument(a: Asked, key: &[u8], wanted: bool, i: usize) -> Done {
+    if !wanted {
+        return without_receipt(true, true);
+    }
     let mut text = io::buffer();
     let n = os::arg(i, &mut text);
     if os::errno() != 0 {
-        io::write_all(STDERR_FILENO, b"receipt: a file's name is too long\n");
-        return list::none_made();
+        messages::say_alone(b"a file's name is too long");
+        return without_receipt(false, true);
     }
-    file(a, opened, key, &text[..n])
+    named(a, key, &text[..n])
 }
 
-// Prints the receipt, or the tag, of the file of a name. No receipt is made with a key.
-fn file(a: Asked, opened: Record, key: &[u8], name: &[u8]) -> Made
+fn without_receipt(good: bool, on: bool) -> Done {
+    Done {
+        good: good,
+        on: on,
+        made: false,
+        receipt: [0u8; RECEIPT],
+    }
+}
+
+fn named(a: Asked, key: &[u8], name: &[u8]) -> Done
     requires { ⌜ length (now name) ≤ nameBytes ⌝ }
 {
-    let t = reading::read_file(name, opened);
-    if !t.good {
-        return list::none_made();
+    if a.check {
+        let c = check::list(a, key, name);
+        return without_receipt(c.good, c.on);
     }
-    if key.len() != 0 {
-        let bits = bits_since(opened.total, t.record.total);
-        let tag = tag_of(t.record, key);
-        line::print_tag(tag, a.n, a.length, bits, name);
-        return list::none_made();
-    }
-    let receipt = receipt_of(t.record);
-    let good = line::print_receipt(receipt, a.n, a.digest, a.length, name);
-    Made {
-        good: good,
-        receipt: receipt,
-    }
+    printed(a, key, name)
 }
 
-fn receipt_of(r: Record) -> [u8; RECEIPT] {
-    let mut receipt = [0u8; RECEIPT];
-    close::close(r, 0, 0, &mut receipt);
-    receipt
-}
-
-fn tag_of(r: Record, key: &[u8]) -> [u8; LONGEST] {
-    let mut tag = [0u8; LONGEST];
-    tag::finish(r, key, &mut tag);
-    tag
-}
-
-// The bits of what was appended since the record had this total.
-fn bits_since(before: u64, total: u64) -> u64 {
-    std::num::wrapping_sub_u64(total, before) << 3
+// Prints the line of a file.
+fn printed(a: Asked, key: &[u8], name: &[u8]) -> Done
+    requires { ⌜ length (now name) ≤ nameBytes ⌝ }
+{
+    let f = fingerprint::of_file(a, a.w, a.n, key, name);
+    if !f.good {
+        return without_receipt(false, true);
+    }
+    let bytes = f.bytes;
+    let written = line::print(bytes, f.from, f.to, a.length, f.bits, name);
+    Done {
+        good: written,
+        on: written,
+        made: written,
+        receipt: bytes,
+    }
 }

@@ -4,7 +4,8 @@ ghost use Prim.Native.Nat.{_≤_};
 ghost use lib.ListN.{length};
 ghost use Rattle.receipt.specs.Sizes.{keyRoom};
 use crate::messages;
-use crate::reading;
+use program::arguments;
+use program::files;
 
 // The most bytes of a key. There is room for one more, by which a longer key is found out.
 const KEY: usize = 65536;
@@ -19,24 +20,38 @@ struct Filled {
     size: usize,
 }
 
+// The size of a key that was read, 0 if there is none, and whether it came from standard input.
+pub struct Key {
+    pub size: usize,
+    pub is_input: bool,
+}
+
 pub fn buffer() -> [u8; KEY_ROOM]
     ensures { λ r. ⌜ keyRoom ≡ length r ⌝ }
 {
     [0; KEY_ROOM]
 }
 
-// Reads the key from the file that argument i names into the room, and answers its size; 0 if there is none, which is said.
-pub fn read(i: usize, room: &mut [u8]) -> usize
+// Reads the key into the room from the file that argument i names from a place on; a key of 0 bytes is none, which is said.
+pub fn read(i: usize, from: usize, room: &mut [u8]) -> Key
     requires { ⌜ keyRoom ≡ length (now room) ⌝ }
-    ensures { λ r. ⌜ r ≤ keyRoom ⌝ }
+    ensures { λ r. ⌜ r .size ≤ keyRoom ⌝ }
 {
     let mut text = io::buffer();
     let n = os::arg(i, &mut text);
     if os::errno() != 0 {
-        messages::say(b"--key", b": the file's name is too long\n");
-        return 0;
+        messages::say(b"--key", b"the file's name is too long");
+        return Key {
+            size: 0,
+            is_input: false,
+        };
     }
-    read_file(&text[..n], room)
+    let name = arguments::from(&text[..n], from);
+    let size = read_file(name, room);
+    Key {
+        size: size,
+        is_input: files::is_standard_input(name),
+    }
 }
 
 // The same for the file of a name.
@@ -44,12 +59,12 @@ fn read_file(name: &[u8], room: &mut [u8]) -> usize
     requires { ⌜ keyRoom ≡ length (now room) ⌝ }
     ensures { λ r. ⌜ r ≤ keyRoom ⌝ }
 {
-    let fd = reading::open_file(name);
+    let fd = files::open(b"receipt", name);
     if fd < 0 {
         return 0;
     }
     let k = fill(fd, name, room);
-    reading::close_file(fd);
+    files::close(name, fd);
     size_of(name, k.good, k.size)
 }
 
@@ -61,10 +76,10 @@ fn size_of(name: &[u8], good: bool, size: usize) -> usize
         return 0;
     }
     if size == 0 {
-        messages::say(name, b": the key is empty\n");
+        messages::say(name, b"the key is empty");
     }
     if KEY < size {
-        messages::say(name, b": the key has more than 65536 bytes\n");
+        messages::say(name, b"the key has more than 65536 bytes");
         return 0;
     }
     size

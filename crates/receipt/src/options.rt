@@ -1,163 +1,152 @@
-// The options, and whether they suit each other.
-use crate::help;
+// What the options ask for, and whether they suit each other.
+use crate::arguments;
 use crate::messages;
-use libc::STDERR_FILENO;
+use program::arguments::Argument;
+use program::arguments::FILE;
+use program::arguments::UNKNOWN;
+use program::arguments::VALUED;
+use program::arguments::from;
+use program::status;
 
-// What the options ask for, and the first argument after them.
 pub struct Asked {
     pub w: u64,
     // The digest length; while the options are read 0 if none is asked for.
     pub n: u64,
-    // The argument that names the key's file, 0 if there is no key.
+    // The argument that names the key's file, 0 if there is no key, and the place there where the name begins.
     pub key: usize,
+    pub key_from: usize,
+    pub check: bool,
     pub digest: bool,
     pub length: bool,
     pub tally: bool,
-    pub first: usize,
-    // Whether the next argument may be an option.
-    more: bool,
-    // Whether no file is read, since an option was wrong or the help was asked for.
-    pub ended: bool,
+    // How many files are named.
+    files: u64,
+    // Whether standard input is read for something else than the file of its name.
+    pub input_taken: bool,
+    // DONE; or else nothing is done, since an option is wrong, or help or the version is asked for.
+    pub status: u64,
 }
 
 // What is asked for.
 pub fn read() -> Asked {
     let mut a = read_all();
-    if a.ended {
+    if a.status != status::DONE {
         return a;
     }
     let n = digest_length(a.w, a.n);
     a.n = n;
-    a.ended = !is_right(a);
+    if !is_right(a) {
+        a.status = status::MISUSED;
+    }
     a
 }
 
-// Reads the options. An argument that does not begin with a dash, or is a dash alone, ends them, and so does --.
 fn read_all() -> Asked {
-    let mut a = Asked {
+    let end = os::arg_count();
+    let mut a = nothing();
+    let mut t = program::arguments::start();
+    let mut i: usize = 1;
+    while i < end {
+        t = arguments::next(t, i);
+        a = with(a, t, i);
+        i += 1;
+    }
+    a
+}
+
+fn nothing() -> Asked {
+    Asked {
         w: 32,
         n: 0,
         key: 0,
+        key_from: 0,
+        check: false,
         digest: false,
         length: false,
         tally: false,
-        first: 1,
-        more: true,
-        ended: false,
-    };
-    let mut turns = u64::MAX;
-    while turns > 0 && a.more {
-        a = option(a);
-        turns -= 1;
+        files: 0,
+        input_taken: false,
+        status: status::DONE,
     }
-    a
 }
 
-// Reads the argument after those read before. One that is missing or too long is read as an empty one, which is no option.
-fn option(mut a: Asked) -> Asked {
-    let mut text = io::buffer();
-    let n = os::arg(a.first, &mut text);
-    let name = &text[..n];
-    if !is_option(name) {
-        a.more = false;
+// What is asked for with argument i. Of several faults the first is said.
+fn with(a: Asked, t: Argument, i: usize) -> Asked {
+    if a.status != status::DONE {
         return a;
     }
-    a.first = std::num::wrapping_add_usize(a.first, 1);
-    named(a, name)
-}
-
-// Whether an argument begins with a dash and is longer.
-fn is_option(text: &[u8]) -> bool {
-    if text.len() < 2 {
-        return false;
+    let is = t.is;
+    match is {
+        arguments::WORD_SIZE => word_size(a, t),
+        arguments::BITS => bits(a, t),
+        arguments::KEY => key_file(a, t),
+        UNKNOWN => wrong(a, i, b"there is no such option; --help says what there is"),
+        VALUED => wrong(a, i, b"this option takes no value"),
+        _ => with_flag(a, is),
     }
-    text[0] == b'-'
 }
 
-// The option of a name.
-fn named(mut a: Asked, name: &[u8]) -> Asked {
-    let option = script::place(b"-- --digest --length --tally -w -n --key -h --help", name);
-    match option {
-        0 => a.more = false,
-        1 => a.digest = true,
-        2 => a.length = true,
-        3 => a.tally = true,
-        4 => a = word_size(a, name),
-        5 => a = bits(a, name),
-        6 => a = key_file(a, name),
-        7 | 8 => a = help(a),
-        _ => a = no_option(a, name),
+fn with_flag(mut a: Asked, is: usize) -> Asked {
+    match is {
+        arguments::CHECK | arguments::CHECK_LONG => a.check = true,
+        arguments::DIGEST => a.digest = true,
+        arguments::LENGTH => a.length = true,
+        arguments::TALLY => a.tally = true,
+        arguments::HELP | arguments::HELP_LONG => a.status = status::HELP,
+        arguments::VERSION => a.status = status::VERSION,
+        FILE => a.files = std::num::wrapping_add_u64(a.files, 1),
+        _ => {}
     }
     a
 }
 
-// The option -w, and its value after it.
-fn word_size(mut a: Asked, option: &[u8]) -> Asked {
-    let w = number(option, a.first);
+// Says what is wrong with argument i.
+fn wrong(a: Asked, i: usize, fault: &[u8]) -> Asked {
+    let mut text = io::buffer();
+    let n = os::arg(i, &mut text);
+    messages::say(&text[..n], fault);
+    misused(a)
+}
+
+fn misused(mut a: Asked) -> Asked {
+    a.status = status::MISUSED;
+    a
+}
+
+// The option -w.
+fn word_size(mut a: Asked, t: Argument) -> Asked {
+    let w = number(b"-w", t);
     if !w.is {
-        return without_files(a);
+        return misused(a);
     }
     if !runs::is_word_size(w.value) {
-        messages::number_wrong(option, w.value, b": the word size is 32 or 64\n");
-        return without_files(a);
+        messages::number_wrong(b"-w", w.value, b"the word size is 32 or 64");
+        return misused(a);
     }
     a.w = w.value;
-    a.first = std::num::wrapping_add_usize(a.first, 1);
     a
 }
 
-// The option -n likewise. Whether its value suits the word size is known after all options.
-fn bits(mut a: Asked, option: &[u8]) -> Asked {
-    let n = number(option, a.first);
+// The option -n. Whether its value suits the word size is known after all options.
+fn bits(mut a: Asked, t: Argument) -> Asked {
+    let n = number(b"-n", t);
     if !n.is {
-        return without_files(a);
+        return misused(a);
     }
     if n.value == 0 {
-        io::write_all(
-            STDERR_FILENO,
-            b"receipt: -n 0: a digest has 1 bit at least\n",
-        );
-        return without_files(a);
+        messages::number_wrong(b"-n", 0, b"a digest has 1 bit at least");
+        return misused(a);
     }
     a.n = n.value;
-    a.first = std::num::wrapping_add_usize(a.first, 1);
     a
 }
 
-// The option --key. Its file is read after all options.
-fn key_file(mut a: Asked, option: &[u8]) -> Asked {
-    if os::arg_count() <= a.first {
-        messages::say(option, b": a file is missing after it\n");
-        return without_files(a);
-    }
-    a.key = a.first;
-    a.first = std::num::wrapping_add_usize(a.first, 1);
-    a
-}
-
-fn help(a: Asked) -> Asked {
-    help::print();
-    without_files(a)
-}
-
-fn no_option(a: Asked, name: &[u8]) -> Asked {
-    messages::say(name, b": there is no such option\n");
-    help::usage(STDERR_FILENO);
-    without_files(a)
-}
-
-fn without_files(mut a: Asked) -> Asked {
-    a.more = false;
-    a.ended = true;
-    a
-}
-
-// The argument after an option as a number; says what is wrong if it is none. One that is missing is read as an empty one.
-fn number(option: &[u8], at: usize) -> script::Number {
+// The value of an option as a number; says what is wrong if it is none.
+fn number(option: &[u8], t: Argument) -> script::Number {
     let mut text = io::buffer();
-    let n = os::arg(at, &mut text);
+    let n = os::arg(t.value, &mut text);
     let missing = os::errno() != 0;
-    let value = &text[..n];
+    let value = from(&text[..n], t.from);
     let number = script::read_number(value);
     if !number.is {
         not_a_number(option, missing, value);
@@ -167,10 +156,21 @@ fn number(option: &[u8], at: usize) -> script::Number {
 
 fn not_a_number(option: &[u8], missing: bool, value: &[u8]) {
     if missing {
-        messages::say(option, b": a number is missing after it\n");
+        messages::say(option, b"a number is missing after it");
         return;
     }
-    messages::value_wrong(option, value, b": this is no number, or is too large\n");
+    messages::value_wrong(option, value, b"this is no number, or is too large");
+}
+
+// The option --key. Its file is read after all options.
+fn key_file(mut a: Asked, t: Argument) -> Asked {
+    if os::arg_count() <= t.value {
+        messages::say(b"--key", b"a file is missing after it");
+        return misused(a);
+    }
+    a.key = t.value;
+    a.key_from = t.from;
+    a
 }
 
 // The digest length that is asked for: the longest of the word size if none is.
@@ -187,35 +187,35 @@ fn is_right(a: Asked) -> bool {
         messages::number_wrong(
             b"-n",
             a.n,
-            b": a digest has 1 bit at least and 8 times the word size at most\n",
+            b"a digest has 1 bit at least and 8 times the word size at most",
         );
         return false;
     }
-    if os::arg_count() <= a.first {
-        io::write_all(STDERR_FILENO, b"receipt: no file is named\n");
-        help::usage(STDERR_FILENO);
+    if a.files == 0 {
+        messages::say_alone(b"no file is named; --help says what there is");
         return false;
     }
-    if a.key != 0 {
-        return suits_key(a);
+    if a.key != 0 && a.n % 8 != 0 {
+        messages::number_wrong(b"-n", a.n, b"with --key a digest has a multiple of 8 bits");
+        return false;
+    }
+    if a.tally {
+        return suits_tally(a);
     }
     true
 }
 
-fn suits_key(a: Asked) -> bool {
-    if a.n % 8 != 0 {
-        messages::number_wrong(
-            b"-n",
-            a.n,
-            b": with --key a digest has a multiple of 8 bits\n",
-        );
+fn suits_tally(a: Asked) -> bool {
+    if a.key != 0 {
+        messages::say_alone(b"--tally counts receipts, and with --key none are made");
         return false;
     }
-    if a.tally {
-        io::write_all(
-            STDERR_FILENO,
-            b"receipt: --tally counts receipts, and with --key none are made\n",
-        );
+    if a.check {
+        messages::say_alone(b"--tally counts receipts, and with --check none are printed");
+        return false;
+    }
+    if (tally::MOST_RECEIPTS as u64) < a.files {
+        messages::say_alone(b"--tally takes 960 files at most");
         return false;
     }
     true

@@ -1,7 +1,7 @@
 // Files read in chunks, and what they hold appended to a record.
 use crate::messages;
-use libc::STDIN_FILENO;
 use orders::Record;
+use program::files;
 
 // The record of a file's bytes, if they could be read.
 pub struct Reading {
@@ -12,32 +12,26 @@ pub struct Reading {
 }
 
 // The record of a file's bytes.
-pub fn read_file(name: &[u8], opened: Record) -> Reading {
-    let fd = open_file(name);
+pub fn read_file(name: &[u8], input_taken: bool, opened: Record) -> Reading {
+    let fd = open_file(name, input_taken);
     if fd < 0 {
         return so_far(false, false, opened);
     }
     let t = read_all(fd, name, opened);
-    close_file(fd);
+    files::close(name, fd);
     t
 }
 
-// The descriptor of a file, or -1, which is said. A dash names standard input.
-pub fn open_file(name: &[u8]) -> i32 {
-    if buffers::equal_bytes(name, b"-") {
-        return STDIN_FILENO;
+// The descriptor of a file, or -1, which is said. Standard input that is read for something else is no file.
+pub fn open_file(name: &[u8], input_taken: bool) -> i32 {
+    if input_taken & files::is_standard_input(name) {
+        messages::say(
+            name,
+            b"standard input is read for the key or the list already",
+        );
+        return -1;
     }
-    let fd = os::open_read(name);
-    if fd < 0 {
-        messages::fail(name);
-    }
-    fd
-}
-
-pub fn close_file(fd: i32) {
-    if fd != STDIN_FILENO {
-        libc::close(fd);
-    }
+    files::open(b"receipt", name)
 }
 
 // A proved loop has to end, and nothing says that a file does, so the reads are counted down from a number that no run uses up.
@@ -72,7 +66,7 @@ fn append(name: &[u8], r: Record, piece: &[u8]) -> Reading {
     if o.number != 0 {
         messages::say(
             name,
-            b": it has more than 2^40 bytes, the key's block counted if there is a key\n",
+            b"it has more than 2^40 bytes, the key's block counted if there is a key",
         );
         return so_far(false, false, r);
     }

@@ -1,4 +1,6 @@
 // The lines: a table of their names, kinds and forms, and the file that answers each.
+ghost use Prim.Native.Nat.{_≤_};
+ghost use lib.ListN.{length};
 use crate::LINE;
 use crate::State;
 use crate::checks;
@@ -11,6 +13,7 @@ use crate::rolls;
 use crate::words;
 use crate::words::WORDS;
 use crate::words::Words;
+use script::Number;
 
 // Makes the call that a line of n bytes says. The call is lent its part of the buffer: the outputs, or the roll.
 pub fn answer(n: usize, buffer: &[u8], before: State, given: &mut [u8], lent: &mut [u8]) -> Reply {
@@ -28,9 +31,24 @@ pub fn answer(n: usize, buffer: &[u8], before: State, given: &mut [u8], lent: &m
     c
 }
 
-// The words of a line. The table has the name of each kind of line, the kind and the form. A kind has two digits, the first of which says in which file it
-// is answered; there it has a name.
 fn read(line: &[u8], given: &mut [u8], lent: &mut [u8]) -> Words {
+    let mut form = [0u8; WORDS];
+    let r = find(line, &mut form);
+    let size = r.size;
+    words::read(r.kind, line, &form[0..size], given, lent)
+}
+
+// The row of a line in the table: its kind, if there is one, and how many letters its form has.
+pub struct Row {
+    pub kind: Number,
+    pub size: usize,
+}
+
+// Finds the row of a line, and writes the form. The table has the name of each kind of line, the kind and the form, which is a dash if no words follow the
+// name. A kind has two digits, the first of which says in which file it is answered; there it has a name.
+pub fn find(line: &[u8], form: &mut [u8]) -> Row
+    ensures { λ r. ⌜ r .size ≤ length (now (form .exit)) ⌝ }
+{
     let table =
         b"open 10 nn append 11 b rewind 12 nb begin 13 b handback 14 b end 15 n abandon 16 - tagstart 17 nnb \
           close 20 lns whole 21 nnblns forward 22 nob backward 23 nob tag 24 nnbbs tagfinish 25 bs \
@@ -39,8 +57,13 @@ fn read(line: &[u8], given: &mut [u8], lent: &mut [u8]) -> Words {
           record 50 - set 51 nnnbbnbbn";
     let place = script::place(table, script::word(line, 0));
     let kind = script::read_number(script::word(table, std::num::wrapping_add_usize(place, 1)));
-    let form = script::word(table, std::num::wrapping_add_usize(place, 2));
-    words::read(kind, line, form, given, lent)
+    let letters = script::word(table, std::num::wrapping_add_usize(place, 2));
+    let size = words::least(script::until(letters, b'-'), form.len());
+    words::copy(letters, form);
+    Row {
+        kind: kind,
+        size: size,
+    }
 }
 
 // The kind of a line; of one that is no call what is printed for it, a number below those of the kinds.

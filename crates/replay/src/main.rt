@@ -1,7 +1,8 @@
-// Replays an order: reads calls from standard input, one to a line, makes each, and prints its answer before it waits for the next line.
+// Replays an order: reads calls from a file, one to a line, makes each, and prints its answer before it waits for the next line.
 mod calls;
 mod checks;
-mod input;
+mod faults;
+mod options;
 mod order;
 mod outputs;
 mod records;
@@ -13,8 +14,12 @@ ghost use mathlib.Core.Path.{_≡_};
 ghost use Prim.Native.Nat.{_≤_};
 ghost use lib.ListN.{length};
 ghost use Rattle.replay.specs.Sizes.{stringBytes, lentBytes, roomBytes};
-use input::Place;
 use orders::Record;
+use program::files;
+use program::lines;
+use program::lines::Place;
+use program::messages;
+use program::status;
 
 // The most bytes of a line, without its newline.
 const LINE: usize = 262144;
@@ -44,16 +49,64 @@ struct Kept {
     state: State,
     // How many lines have ended.
     lines: u64,
-    // Whether to go on: there may be more input, and what was printed could be written.
+    // How many of them were no call.
+    faults: u64,
+    // Whether what was printed could be written.
     on: bool,
 }
 
+// How a script ended: whether all of it could be read, and all answers written.
+struct Ended {
+    read: bool,
+    written: bool,
+}
+
 fn main() {
+    let a = options::read();
+    status::end(b"replay", run(a));
+}
+
+fn run(a: options::Asked) -> u64 {
+    if a.status != status::DONE {
+        return a.status;
+    }
+    if a.file == 0 {
+        return file(b"-");
+    }
+    named(a.file)
+}
+
+// Replays the file that argument i names.
+fn named(i: usize) -> u64 {
+    let mut text = io::buffer();
+    let n = os::arg(i, &mut text);
+    if os::errno() != 0 {
+        messages::say_alone(b"replay", b"the file's name is too long");
+        return status::FAILED;
+    }
+    file(&text[..n])
+}
+
+// Replays the file of a name.
+fn file(name: &[u8]) -> u64 {
+    let fd = files::open(b"replay", name);
+    if fd < 0 {
+        return status::FAILED;
+    }
+    let e = with_buffers(fd);
+    if !e.read {
+        messages::fail(b"replay", name);
+    }
+    files::close(name, fd);
+    status::of(e.read & e.written)
+}
+
+fn with_buffers(fd: i32) -> Ended {
     let mut chunk = io::large_buffer();
     let mut line = line_buffer();
     let mut given = bytes_buffer();
     let mut lent = lent_buffer();
-    replay(&mut chunk, &mut line, &mut given, &mut lent);
+    replay(fd, &mut chunk, &mut line, &mut given, &mut lent)
 }
 
 fn line_buffer() -> [u8; ROOM]
@@ -75,26 +128,30 @@ fn lent_buffer() -> [u8; LENT_BYTES]
 }
 
 // A proved loop has to end, and nothing says that the input does, so the turns are counted down from a number that no run uses up.
-fn replay(chunk: &mut [u8], line: &mut [u8], given: &mut [u8], lent: &mut [u8])
+fn replay(fd: i32, chunk: &mut [u8], line: &mut [u8], given: &mut [u8], lent: &mut [u8]) -> Ended
     requires { ⌜ roomBytes ≤ length (now line) ⌝ }
 {
     let mut k = start();
-    let mut p = input::start();
+    let mut p = lines::start();
     let mut turns = u64::MAX;
-    while turns > 0 && k.on {
-        p = input::go_on(p, chunk, line);
+    while turns > 0 && k.on & p.more {
+        p = lines::go_on(p, fd, LINE, chunk, line);
         k = answer(k, p, line, given, lent);
         turns -= 1;
+    }
+    Ended {
+        read: !p.failed,
+        written: k.on,
     }
 }
 
 // The record is all zeros at first, as a refused Open gives it.
 fn start() -> Kept {
     let o = record::open(0, 0);
-    after(o.next, 0, 0, true)
+    after(o.next, 0, 0, 0, true)
 }
 
-fn after(r: Record, roll: u64, lines: u64, on: bool) -> Kept {
+fn after(r: Record, roll: u64, lines: u64, faults: u64, on: bool) -> Kept {
     let s = State {
         record: r,
         roll: roll,
@@ -102,6 +159,7 @@ fn after(r: Record, roll: u64, lines: u64, on: bool) -> Kept {
     Kept {
         state: s,
         lines: lines,
+        faults: faults,
         on: on,
     }
 }
@@ -110,12 +168,22 @@ fn after(r: Record, roll: u64, lines: u64, on: bool) -> Kept {
 fn answer(k: Kept, p: Place, line: &mut [u8], given: &mut [u8], lent: &mut [u8]) -> Kept
     requires { ⌜ roomBytes ≤ length (now line) ⌝ }
 {
-    let n = input::ended_bytes(p);
+    let n = lines::ended_bytes(p);
     let c = calls::answer(n, line, k.state, given, lent);
     let next = c.next;
     let number = counted(k.lines, p.ended);
+    let faults = explained(k.faults, number, c.what, n, line);
     let printed = reply::print(n, line, number, c, lent);
-    after(next, c.roll, number, printed & p.more)
+    after(next, c.roll, number, faults, printed)
+}
+
+// How many lines were no call with this one, of n bytes; why it is none is said.
+fn explained(faults: u64, k: u64, what: u64, n: usize, line: &[u8]) -> u64 {
+    if what != reply::NOT_A_CALL {
+        return faults;
+    }
+    let m = words::least(n, line.len());
+    faults::explain(faults, k, &line[0..m])
 }
 
 // How many lines have ended with this one.

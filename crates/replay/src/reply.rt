@@ -8,10 +8,9 @@ ghost use Rattle.replay.specs.Sizes.{lineBytes, mostNumbers, roomBytes};
 use crate::BYTES;
 use crate::LINE;
 use crate::words;
-use libc::STDERR_FILENO;
-use libc::STDOUT_FILENO;
 use limits::LONGEST_BLOCK;
 use orders::Record;
+use program::output;
 use script::WIDE_CHAIN;
 
 // The most numbers that a line prints.
@@ -38,7 +37,7 @@ pub const NOT_A_CALL: u64 = 7;
 // The answer to a line: what it prints, with the first count of the numbers and a part of the buffer from which calls are lent; and the record that is
 // kept.
 pub struct Reply {
-    what: u64,
+    pub what: u64,
     count: usize,
     numbers: [u64; NUMBERS],
     from: u64,
@@ -125,11 +124,7 @@ fn write(line: &mut [u8], n: usize) -> bool
     requires { ⌜ n < length (now line) ⌝ }
 {
     let end = buffers::put(line, n, b"\n");
-    if io::write_all(STDOUT_FILENO, &line[0..end]) {
-        return true;
-    }
-    io::write_all(STDERR_FILENO, b"replay: the output cannot be written\n");
-    false
+    output::write(b"replay", &line[0..end])
 }
 
 // Puts the front of what is printed into the buffer, and returns the place after it, as the following do.

@@ -8,7 +8,7 @@ use script::Number;
 pub const WORDS: usize = 12;
 
 // The most bytes of an output whose SIZE a line says.
-const OUTPUT: u64 = 4096;
+pub const OUTPUT: u64 = 4096;
 
 // What each place of such an output holds before the call.
 const LENT: u8 = 0xa5;
@@ -31,12 +31,11 @@ pub struct Words {
 }
 
 // Reads the words of a line by a form, which has a letter for each word after the name: n a number, l LAST, b BYTES, s SIZE of an output, o BYTES that are
-// lent as an output, r SIZE of a roll, c BYTES of a roll. A dash is the form without words.
+// lent as an output, r SIZE of a roll, c BYTES of a roll.
 pub fn read(kind: Number, line: &[u8], form: &[u8], given: &mut [u8], lent: &mut [u8]) -> Words {
     let mut w = none(kind, script::until(line, b' '));
-    let end = script::until(form, b'-');
     let mut i: usize = 0;
-    while i < end {
+    while i < form.len() {
         w = read_word(w, i, form[i], line, given, lent);
         i += 1;
     }

@@ -87,7 +87,7 @@ pub fn is_well_formed(r: &[u8]) -> bool
 }
 
 // n of a receipt.
-fn digest_length_of(r: &[u8]) -> u64
+pub fn digest_length_of(r: &[u8]) -> u64
     requires { ⌜ length (now r) ≡ receiptBytes ⌝ }
     ensures { λ n. ⌜ n ≡ digestLengthOf (now (r .entry)) ⌝ }
 {

@@ -15,10 +15,10 @@ keep-spec =
     tie.close
     (tie.spec
     (λ c. search needs)
-    (λ c κs. search needs)
     (λ c. search needs)
     (λ c. search needs)
     (λ c. search needs)
-    (λ c κs. let l : length (c .before .before .before .before .before .before .before .before .args .made .receipt) ≡ receiptBytes = search needs in omega arith)
+    (λ c κs. let l : length (c .before .before .before .before .before .args .receipt) ≡ receiptBytes = search needs in omega arith)
+    (λ c. search needs)
     (λ c. search needs)
     (λ c. search needs))
