@@ -38,6 +38,15 @@ fn read(line: &[u8], given: &mut [u8], lent: &mut [u8]) -> Words {
     words::read(r.kind, line, &form[0..size], given, lent)
 }
 
+// Says why line k is no call, and answers of how many lines it has been asked.
+pub fn explain(before: u64, k: u64, line: &[u8]) -> u64 {
+    let mut form = [0u8; WORDS];
+    let r = find(line, &mut form);
+    let size = r.size;
+    let named = r.kind.is;
+    faults::explain(before, k, line, named, &form[0..size])
+}
+
 // The row of a line in the table: its kind, if there is one, and how many letters its form has.
 pub struct Row {
     pub kind: Number,

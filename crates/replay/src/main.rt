@@ -1,7 +1,6 @@
 // Replays an order: reads calls from a file, one to a line, makes each, and prints its answer before it waits for the next line.
 mod calls;
 mod checks;
-mod faults;
 mod options;
 mod order;
 mod outputs;
@@ -20,15 +19,13 @@ use program::lines;
 use program::lines::Place;
 use program::messages;
 use program::status;
+use script::ROLL;
 
 // The most bytes of a line, without its newline.
 const LINE: usize = 262144;
 
 // The most bytes that the words of a line can say, two digits each.
 const BYTES: usize = 131072;
-
-// The most bytes of a roll.
-const ROLL: usize = 65536;
 
 // Room for what calls are lent: outputs end to end, and behind their room the roll, which is kept from line to line. One buffer serves both, since no call
 // is lent both and each buffer that is passed on costs.
@@ -183,7 +180,7 @@ fn explained(faults: u64, k: u64, what: u64, n: usize, line: &[u8]) -> u64 {
         return faults;
     }
     let m = words::least(n, line.len());
-    faults::explain(faults, k, &line[0..m])
+    calls::explain(faults, k, &line[0..m])
 }
 
 // How many lines have ended with this one.

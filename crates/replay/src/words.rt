@@ -1,14 +1,12 @@
 // The words of a line, read by the form of its call.
 ghost use Prim.Native.Nat.{_≤_};
 ghost use lib.ListN.{length};
-use crate::ROLL;
 use script::Number;
+use script::OUTPUT;
+use script::ROLL;
 
 // The most words of a line after its name.
 pub const WORDS: usize = 12;
-
-// The most bytes of an output whose SIZE a line says.
-pub const OUTPUT: u64 = 4096;
 
 // What each place of such an output holds before the call.
 const LENT: u8 = 0xa5;

@@ -11,6 +11,11 @@ ghost use Rattle.hex.specs.Hex.{isDigit};
 // The bytes of a chain in a script, where each of the 16 words has eight at either word size.
 pub const WIDE_CHAIN: usize = 16 * 8;
 
+// The most bytes of an output whose SIZE a line says, and of a roll.
+pub const OUTPUT: u64 = 4096;
+
+pub const ROLL: usize = 65536;
+
 // The number that a word says, if it is one.
 pub struct Number {
     pub is: bool,

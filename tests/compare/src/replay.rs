@@ -17,6 +17,7 @@ fn replay(script: String) -> Vec<String> {
     let mut program = Command::new(program("replay"))
         .stdin(Stdio::piped())
         .stdout(Stdio::piped())
+        .stderr(Stdio::null())
         .spawn()
         .expect("replay does not start: `rt check replay` builds it");
     let mut input = program.stdin.take().unwrap();

@@ -53,11 +53,11 @@ Open 32 256|its first word is no call
 nn 32 256|its first word is no call
 - 32 256|its first word is no call
 \\0|its first word is no call
-open 32|a line of this call has as many words: 3
-open|a line of this call has as many words: 3
-open 32 256 1|a line of this call has as many words: 3
-abandon 1|a line of this call has as many words: 1
-set 1|a line of this call has as many words: 10
+open 32|a line of this call has 3 words
+open|a line of this call has 3 words
+open 32 256 1|a line of this call has 3 words
+abandon 1|a line of this call is one word
+set 1|a line of this call has 10 words
 open -1 256|word 2: a number has decimal digits only
 open 32 0x10|word 3: a number has decimal digits only
 open 32 2.5|word 3: a number has decimal digits only

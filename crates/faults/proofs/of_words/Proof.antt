@@ -1,9 +1,9 @@
--- `replay::faults::of_words` is safe and ends. Assumes nothing.
+-- `faults::of_words` is safe and ends. Assumes nothing.
 use Prim.Native.Nat.{_-_}
 use native.Mathlib.Omega.{arith}
 use lib.ListN.{length}
-use Rattle.replay.proofs.faults.of_words.Statement.{statement}
-use Rattle.replay.proofs.faults.of_words.Tie as tie
+use Rattle.faults.proofs.of_words.Statement.{statement}
+use Rattle.faults.proofs.of_words.Tie as tie
 
 abbrev Inv-loop : tie.InvT-loop
 Inv-loop line form i₀ i = Unit {0}

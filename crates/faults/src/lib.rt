@@ -1,44 +1,43 @@
-// Why a line is no call, said on standard error for the one who wrote the script.
+// Why a line of a script is no call, said on standard error for the one who wrote the script.
 ghost use Prim.Native.Nat.{_≤_};
 ghost use lib.ListN.{length};
-use crate::ROLL;
-use crate::calls;
-use crate::words;
-use crate::words::OUTPUT;
-use crate::words::WORDS;
 use libc::STDERR_FILENO;
+use script::OUTPUT;
+use script::ROLL;
 
 // The most lines of which it is said.
 const MOST: u64 = 100;
 
-// Why a line is no call. From NO_NUMBER on it is for one of its words.
-const NONE: u64 = 0;
+// Why a line is no call: the places of the sentences in `say`. Up to LENGTHS it is for the line, and from NO_NUMBER on for one of its words.
+const RETURN: u64 = 0;
 
-const RETURN: u64 = 1;
+const SPACES: u64 = 1;
 
-const SPACES: u64 = 2;
+const NAME: u64 = 2;
 
-const NAME: u64 = 3;
+const LENGTHS: u64 = 3;
 
-const COUNT: u64 = 4;
+const NO_NUMBER: u64 = 4;
 
-const LENGTHS: u64 = 5;
+const LARGE: u64 = 5;
 
-const NO_NUMBER: u64 = 6;
+const LARGE_OUTPUT: u64 = 6;
 
-const LARGE: u64 = 7;
+const LARGE_ROLL: u64 = 7;
 
-const LARGE_SIZE: u64 = 8;
+const UPPER: u64 = 8;
 
-const LARGE_ROLL: u64 = 9;
+const NO_DIGIT: u64 = 9;
 
-const UPPER: u64 = 10;
+const HALF: u64 = 10;
 
-const NO_DIGIT: u64 = 11;
+const NO_BYTE: u64 = 11;
 
-const HALF: u64 = 12;
+// The line has not as many words as it takes.
+const COUNT: u64 = 12;
 
-const NO_BYTE: u64 = 13;
+// Nothing is wrong.
+const NONE: u64 = 13;
 
 // A fault, and the number of the word that has it, or of the words that the line should have.
 struct Fault {
@@ -53,30 +52,25 @@ fn one_fault(why: u64, word: usize) -> Fault {
     }
 }
 
-// Says why line k is no call, unless that was said of many before, and answers of how many lines it has been asked.
-pub fn explain(before: u64, k: u64, line: &[u8]) -> u64 {
+// Says why line k is no call, unless that was said of many before, and answers of how many lines it has been asked. The line's first word names a call or
+// not, whose form has a letter for each word behind it.
+pub fn explain(before: u64, k: u64, line: &[u8], named: bool, form: &[u8]) -> u64 {
     if before < MOST {
-        say(k, of_line(line));
+        say(k, of_line(line, named, form));
     }
     if before == MOST {
-        io::write_all(
-            STDERR_FILENO,
-            b"replay: there are more lines that are no call; why is said of the first 100\n",
-        );
+        tell(b"replay: there are more lines that are no call; why is said of the first 100\n");
     }
     std::num::wrapping_add_u64(before, 1)
 }
 
 // The first fault of a line.
-fn of_line(line: &[u8]) -> Fault {
-    let mut form = [0u8; WORDS];
-    let r = calls::find(line, &mut form);
-    let size = r.size;
-    let why = of_shape(line, r.kind.is, size);
+fn of_line(line: &[u8], named: bool, form: &[u8]) -> Fault {
+    let why = of_shape(line, named, form.len());
     if why != NONE {
-        return one_fault(why, std::num::wrapping_add_usize(size, 1));
+        return one_fault(why, std::num::wrapping_add_usize(form.len(), 1));
     }
-    of_words(line, &form[0..size])
+    of_words(line, form)
 }
 
 // What is wrong with the shape of a line whose call takes so many words.
@@ -147,7 +141,7 @@ fn of_words(line: &[u8], form: &[u8]) -> Fault {
 fn of_word(letter: u8, word: &[u8]) -> u64 {
     match letter {
         b'n' => of_number(word, u64::MAX, LARGE),
-        b's' => of_number(word, OUTPUT, LARGE_SIZE),
+        b's' => of_number(word, OUTPUT, LARGE_OUTPUT),
         b'r' => of_number(word, ROLL as u64, LARGE_ROLL),
         b'l' => of_last(word),
         b'c' => of_roll(word),
@@ -208,48 +202,75 @@ fn of_bytes(word: &[u8]) -> u64 {
 
 // Says why line k is no call.
 fn say(k: u64, f: Fault) {
-    io::write_all(STDERR_FILENO, b"replay: line ");
+    tell(b"replay: line ");
     io::print_decimal(STDERR_FILENO, k);
-    io::write_all(STDERR_FILENO, b": ");
-    if NO_NUMBER <= f.why {
-        say_word(f.word, f.why);
+    tell(b": ");
+    if f.why == COUNT {
+        say_count(f.word);
         return;
     }
-    say_line(f.word, f.why);
-}
-
-fn say_line(words: usize, why: u64) {
-    match why {
-        RETURN => tell(b"it ends in a carriage return\n"),
-        SPACES => tell(
-            b"there is a space too many: words have one between two of them, and no other\n",
-        ),
-        NAME => tell(b"its first word is no call\n"),
-        COUNT => say_count(words),
-        _ => tell(b"CHAIN and SECOND have 256 digits each, HELD and BACK 512\n"),
+    if NO_NUMBER <= f.why {
+        say_word(f.word);
     }
+    say_why(f.why);
 }
 
 fn say_count(words: usize) {
-    tell(b"a line of this call has as many words: ");
+    if words == 1 {
+        tell(b"a line of this call is one word\n");
+        return;
+    }
+    tell(b"a line of this call has ");
     io::print_decimal(STDERR_FILENO, words as u64);
-    tell(b"\n");
+    tell(b" words\n");
 }
 
-fn say_word(word: usize, why: u64) {
+fn say_word(word: usize) {
     tell(b"word ");
     io::print_decimal(STDERR_FILENO, word as u64);
     tell(b": ");
-    match why {
-        NO_NUMBER => tell(b"a number has decimal digits only\n"),
-        LARGE => tell(b"the number is above 18446744073709551615\n"),
-        LARGE_SIZE => tell(b"an output has 4096 bytes at most\n"),
-        LARGE_ROLL => tell(b"a roll has 65536 bytes at most\n"),
-        UPPER => tell(b"there is an upper-case digit: hexadecimal digits are lower-case\n"),
-        NO_DIGIT => tell(b"bytes have hexadecimal digits only, and are a dash if there are none\n"),
-        HALF => tell(b"a byte has two digits, and here is one too few\n"),
-        _ => tell(b"LAST is one byte\n"),
+}
+
+fn say_why(why: u64) {
+    let sentences = b"it ends in a carriage return\n\
+          there is a space too many: words have one between two of them, and no other\n\
+          its first word is no call\n\
+          CHAIN and SECOND have 256 digits each, HELD and BACK 512\n\
+          a number has decimal digits only\n\
+          the number is above 18446744073709551615\n\
+          an output has 4096 bytes at most\n\
+          a roll has 65536 bytes at most\n\
+          there is an upper-case digit: hexadecimal digits are lower-case\n\
+          bytes have hexadecimal digits only, and are a dash if there are none\n\
+          a byte has two digits, and here is one too few\n\
+          LAST is one byte\n";
+    tell(line_of(sentences, why));
+    tell(b"\n");
+}
+
+// Line i of a text, counted from 0; an empty one where it has fewer.
+fn line_of(text: &[u8], i: u64) -> &[u8] {
+    let mut from: usize = 0;
+    let mut left = i;
+    while left > 0 {
+        from = next_line(text, from);
+        left -= 1;
     }
+    let rest = &text[from..];
+    let n = script::until(rest, b'\n');
+    &rest[..n]
+}
+
+// Where the line after the one at a place begins.
+fn next_line(text: &[u8], from: usize) -> usize
+    requires { ⌜ from ≤ length (now text) ⌝ }
+    ensures { λ r. ⌜ r ≤ length (now (text .entry)) ⌝ }
+{
+    let end = from + script::until(&text[from..], b'\n');
+    if end < text.len() {
+        return end + 1;
+    }
+    end
 }
 
 fn tell(text: &[u8]) {

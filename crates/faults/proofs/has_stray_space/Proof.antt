@@ -1,9 +1,9 @@
--- `replay::faults::has_stray_space` is safe and ends. Assumes nothing.
+-- `faults::has_stray_space` is safe and ends. Assumes nothing.
 use Prim.Native.Nat.{_-_}
 use native.Mathlib.Omega.{arith}
 use lib.ListN.{length}
-use Rattle.replay.proofs.faults.has_stray_space.Statement.{statement}
-use Rattle.replay.proofs.faults.has_stray_space.Tie as tie
+use Rattle.faults.proofs.has_stray_space.Statement.{statement}
+use Rattle.faults.proofs.has_stray_space.Tie as tie
 
 abbrev Inv-loop : tie.InvT-loop
 Inv-loop line stray₀ behind₀ i₀ stray behind i = Unit {0}

@@ -1,10 +1,10 @@
--- `replay::faults::bytes_from_to` is safe and ends. Assumes nothing.
+-- `faults::bytes_from_to` is safe and ends. Assumes nothing.
 use Prim.Native.Nat.{_-_}
 use native.Mathlib.Omega.{arith}
 use lib.ListN.{length}
 use borrow.Author.Needs.{needs}
-use Rattle.replay.proofs.faults.bytes_from_to.Statement.{statement}
-use Rattle.replay.proofs.faults.bytes_from_to.Tie as tie
+use Rattle.faults.proofs.bytes_from_to.Statement.{statement}
+use Rattle.faults.proofs.bytes_from_to.Tie as tie
 
 abbrev Inv-loop : tie.InvT-loop
 Inv-loop s low high n₀ i₀ n i = Unit {0}
