@@ -204,7 +204,7 @@ LSH_NODISCARD lsh_outcome lsh_append(lsh_record r, const uint8_t *piece, size_t 
 
 /* Takes bytes off the end of an order. h are the last bytes of the order, from a place on where a block begins (a multiple of 4w); the
  * first `keep` of them remain, less than a block. To cut an order to c bytes, keep is c mod 4w and h is what the order has from place
- * c - keep on (docs/GUIDE.md has a drawing).
+ * c - keep on (docs/DRIVER.md has a drawing).
  * Answers 0 with the record of the shorter order and the number of blocks that were run backward: the whole blocks of h. Or answers
  * LSH_UNSOUND_RECORD, LSH_OUT_OF_TURN, LSH_BAD_START, LSH_BAD_KEEP, LSH_HELD_DIFFER or LSH_OPENING_DIFFERS, tested in that order. Hand back
  * what was appended: other bytes are taken where none of these tests shows them, and the record that follows is then not that of the order. */
