@@ -106,18 +106,22 @@ fn counted(mut f: Found, what: u64) -> Found {
     f
 }
 
-// What is found of a line of n bytes. A list may come from a system whose lines end in a carriage return; in a name it is escaped.
+// What is found of a line of n bytes. A list may come from a system whose lines end in a carriage return; elsewhere in a line none was printed.
 fn line_of(a: Asked, key: &[u8], n: usize, buffer: &[u8]) -> u64
     requires { ⌜ lineBytes ≡ length (now buffer) ⌝ }
 {
     if LINE < n {
         return NO_LINE;
     }
+    // The line is empty, or begins with this.
+    if script::until(&buffer[0..n], b'#') == 0 {
+        return NOTHING;
+    }
     let end = script::until(&buffer[0..n], b'\r');
     if n - end > 1 {
         return NO_LINE;
     }
-    if script::until(&buffer[0..end], b'#') == 0 {
+    if end == 0 {
         return NOTHING;
     }
     checked(a, key, &buffer[0..end])
@@ -223,8 +227,14 @@ fn print(name: &[u8], what: u64) -> bool
     }
 }
 
-// Says what was found in the list of a name.
+// Says what was found in the list of a name, unless the output could not be written, which was said.
 fn verdict(f: Found, name: &[u8]) -> Result {
+    if !f.on {
+        return Result {
+            good: false,
+            on: false,
+        };
+    }
     say_count(name, f.wrong, b"file failed", b"files failed");
     say_count(
         name,
@@ -238,13 +248,13 @@ fn verdict(f: Found, name: &[u8]) -> Result {
         b"line is not as it is printed without --check",
         b"lines are not as they are printed without --check",
     );
-    let is_empty = (f.right == 0) & (f.wrong == 0) & (f.unread == 0) & f.on;
-    if is_empty {
+    let is_empty = (f.right == 0) & (f.wrong == 0) & (f.unread == 0);
+    if is_empty & f.good {
         messages::say(name, b"there is no line to check in it");
     }
     Result {
-        good: f.good & f.on & !is_empty & (f.wrong == 0) & (f.unread == 0) & (f.no_line == 0),
-        on: f.on,
+        good: f.good & !is_empty & (f.wrong == 0) & (f.unread == 0) & (f.no_line == 0),
+        on: true,
     }
 }
 

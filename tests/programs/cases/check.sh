@@ -32,7 +32,7 @@ expect 0 "$(ok abc abc empty)"$'\n' '' -w 32 -n 9 --check list
 expect 0 "$(ok abc abc empty abc abc empty)"$'\n' '' --check list list
 
 # Comments and empty lines are passed over; so is a carriage return at the end of a line; the last line may lack its newline.
-printf '# receipts\n\n%s  abc\r\n%s  empty' "$receipt256" "$(model 'whole 32 256 - 00 0 76')" >"$work/list"
+printf '# receipts\rof today\r\n\n\r\n%s  abc\r\n%s  empty' "$receipt256" "$(model 'whole 32 256 - 00 0 76')" >"$work/list"
 expect 0 "$(ok abc empty)"$'\n' '' --check list
 
 # Standard input in a list is standard input.
@@ -94,7 +94,7 @@ expect 1 "\\$newlines: FAILED open or read"$'\n' "receipt: $newlines: File name 
 
 # Lists that cannot be read, or have nothing.
 expect 1 '' $'receipt: none: No such file or directory\n' --check none
-expect 1 '' $'receipt: .: Is a directory\nreceipt: .: there is no line to check in it\n' --check .
+expect 1 '' $'receipt: .: Is a directory\n' --check .
 expect 1 '' $'receipt: empty: there is no line to check in it\n' --check empty
 printf '%s  abc\n' "$receipt256" >"$work/list"
 expect 1 $'abc: OK\n' $'receipt: no\\nlist: No such file or directory\n' --check $'no\nlist' list

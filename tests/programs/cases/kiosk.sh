@@ -37,6 +37,8 @@ passed 1
 
 expect_kiosk 2 '' $'kiosk: what is to be run is missing; --help says what there is\n'
 expect_kiosk 2 '' $'kiosk: print is no program of the module; --help says what there is\n' print abc
+expect_kiosk 2 '' $'kiosk: receipt replay is no program of the module; --help says what there is\n' 'receipt replay'
+expect_kiosk 2 '' $'kiosk:  is no program of the module; --help says what there is\n' ''
 expect_kiosk 2 '' $'kiosk: ../kiosk is no program of the module; --help says what there is\n' ../kiosk
 expect_kiosk 2 '' $'kiosk: package takes one folder; --help says what there is\n' package
 expect_kiosk 2 '' $'kiosk: package has no options; --help says what there is\n' package --here
@@ -74,7 +76,9 @@ done
 expect_of 1 "$abc256  abc"$'\n' $'receipt: -: Bad file descriptor\n' bash -c "$root/target/bin/receipt --digest abc - <&- 3>word; exit \$(cat word)"
 # A program whose output nobody reads has failed.
 for _ in {1..3000}; do printf '%s  abc\n' "$receipt256"; done >"$work/many"
-expect_of 1 '' '' bash -c "(sleep 0.5; $root/kiosk receipt --check many; echo \$? >status) | :; exit \$(cat status)"
+for words in 'receipt --check many' 'replay many' 'order many many'; do
+    expect_of 1 '' '' bash -c "(sleep 0.5; $root/kiosk $words 2>/dev/null; echo \$? >status) | :; exit \$(cat status)"
+done
 
 # What is said on standard error comes in its order with what is printed.
 for _ in {1..10}; do
@@ -82,21 +86,33 @@ for _ in {1..10}; do
         bash -c "$root/kiosk receipt --digest none abc . abc 2>&1"
 done
 
+# The number of the program that a process runs, which may have to be waited for.
+child_of() { # PROCESS NAME
+    local tries
+    for tries in {1..200}; do
+        ! pgrep -P "$1" -x "$2" || return 0
+        sleep 0.05
+    done
+    fail "$2 is not run after $tries looks"
+}
+
 # A signal that ends ./kiosk ends the program too.
 mkfifo "$work/fifo"
-for signal in TERM INT HUP QUIT; do
+for words in 'TERM receipt -' 'INT receipt -' 'HUP receipt -' 'QUIT receipt -' 'TERM replay' 'INT order -'; do
+    read -r signal name file <<<"$words"
     exec {hold}<>"$work/fifo"
     # A script starts its background programs without INT, which a program has at a terminal: env gives it back.
-    env --default-signal="INT,QUIT" ./kiosk receipt - <"$work/fifo" >"$work/.output" 2>"$work/.errors" &
+    # shellcheck disable=SC2086 # there may be no file
+    env --default-signal="INT,QUIT" ./kiosk "$name" $file <"$work/fifo" >"$work/.output" 2>"$work/.errors" &
     pid=$!
-    until program=$(pgrep -P "$pid" -x receipt); do sleep 0.05; done
+    program=$(child_of "$pid" "$name")
     kill -s "$signal" "$pid"
     status=0
     { wait "$pid" || status=$?; } 2>/dev/null
-    [ "$status" -eq $((128 + $(kill -l "$signal"))) ] || fail "$signal: status $status"
-    if kill -s 0 "$program" 2>/dev/null; then fail "$signal leaves the program running"; fi
-    [ ! -s "$work/.output" ] || fail "$signal: something is printed"
-    [ ! -s "$work/.errors" ] || fail "$signal: $(cat "$work/.errors")"
+    [ "$status" -eq $((128 + $(kill -l "$signal"))) ] || fail "$words: status $status"
+    if kill -s 0 "$program" 2>/dev/null; then fail "$words: the program goes on"; fi
+    [ ! -s "$work/.output" ] || fail "$words: something is printed"
+    [ ! -s "$work/.errors" ] || fail "$words: $(cat "$work/.errors")"
     exec {hold}>&-
     passed 1
 done
@@ -104,7 +120,7 @@ done
 exec {hold}<>"$work/fifo"
 ./kiosk receipt - <"$work/fifo" >"$work/.output" 2>"$work/.errors" &
 pid=$!
-until program=$(pgrep -P "$pid" -x receipt); do sleep 0.05; done
+program=$(child_of "$pid" receipt)
 kill -s KILL "$program"
 status=0
 wait "$pid" || status=$?
@@ -149,7 +165,7 @@ line='\|kiosk: [23] of 3 crates proved in [0-9]+:[0-9]{2}, the last: '
 [[ $screen =~ ${line}side.*${line}receipt'|kiosk: built in '[0-9:]+'a receipt of abc'$ ]] || fail "what a terminal shows: $screen"
 passed 1
 # A word that is no status, or none, is no success.
-for word in 'echo 3 >&3' 'echo >&3' ':' 'exit 7'; do
+for word in 'echo 3 >&3' 'echo >&3' 'printf 3 >&3' ':' 'exit 7'; do
     printf '#!/bin/sh\n%s\n' "$word" >"$tree/target/bin/receipt"
     expect_of 1 '' "kiosk: receipt died, with status $([ "$word" = 'exit 7' ] && echo 7 || echo 0)"$'\n' in_tree receipt
 done
