@@ -1,6 +1,7 @@
 // The arguments: which are options, which are the values of options, and which name files. Options may stand anywhere before --.
 ghost use Prim.Native.Nat.{_≤_};
 ghost use lib.ListN.{length};
+use crate::messages;
 
 // What an argument is: the place of an option in the program's table, or one of these.
 pub const UNKNOWN: usize = 1001;
@@ -125,6 +126,26 @@ fn with_value(option: usize, i: usize, attached: bool, end: usize, long: bool) -
     }
     a.value = std::num::wrapping_add_usize(i, 1);
     a
+}
+
+// Says what is wrong with argument i.
+pub fn say(program: &[u8], i: usize, fault: &[u8]) {
+    let mut text = io::buffer();
+    let n = os::arg(i, &mut text);
+    messages::say(program, &text[..n], fault);
+}
+
+// Says why argument i is no option: there is none of its name, or it takes no value.
+pub fn say_no_option(program: &[u8], i: usize, is: usize) {
+    if is == VALUED {
+        say(program, i, b"this option takes no value");
+        return;
+    }
+    say(
+        program,
+        i,
+        b"there is no such option; --help says what there is",
+    );
 }
 
 // The text from a place on.

@@ -80,8 +80,7 @@ fn with(a: Asked, t: Argument, i: usize) -> Asked {
         arguments::WORD_SIZE => word_size(a, t),
         arguments::BITS => bits(a, t),
         arguments::KEY => key_file(a, t),
-        UNKNOWN => wrong(a, i, b"there is no such option; --help says what there is"),
-        VALUED => wrong(a, i, b"this option takes no value"),
+        UNKNOWN | VALUED => no_option(a, i, is),
         _ => with_flag(a, is),
     }
 }
@@ -100,11 +99,8 @@ fn with_flag(mut a: Asked, is: usize) -> Asked {
     a
 }
 
-// Says what is wrong with argument i.
-fn wrong(a: Asked, i: usize, fault: &[u8]) -> Asked {
-    let mut text = io::buffer();
-    let n = os::arg(i, &mut text);
-    messages::say(&text[..n], fault);
+fn no_option(a: Asked, i: usize, is: usize) -> Asked {
+    program::arguments::say_no_option(b"receipt", i, is);
     misused(a)
 }
 

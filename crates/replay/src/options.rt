@@ -1,7 +1,9 @@
 // What is asked for: a script's file, help or the version.
 use program::arguments;
 use program::arguments::Argument;
-use program::messages;
+use program::arguments::FILE;
+use program::arguments::UNKNOWN;
+use program::arguments::VALUED;
 use program::status;
 
 // The options, by their places in the table.
@@ -52,13 +54,8 @@ fn with(mut a: Asked, t: Argument, i: usize) -> Asked {
     match is {
         HELP | HELP_LONG => a.status = status::HELP,
         VERSION => a.status = status::VERSION,
-        arguments::FILE => a = with_file(a, i),
-        arguments::UNKNOWN => a = wrong(
-            a,
-            i,
-            b"there is no such option; --help says what there is",
-        ),
-        arguments::VALUED => a = wrong(a, i, b"this option takes no value"),
+        FILE => a = with_file(a, i),
+        UNKNOWN | VALUED => a = no_option(a, i, is),
         _ => {}
     }
     a
@@ -66,17 +63,23 @@ fn with(mut a: Asked, t: Argument, i: usize) -> Asked {
 
 fn with_file(mut a: Asked, i: usize) -> Asked {
     if a.file != 0 {
-        return wrong(a, i, b"one script is replayed, and this is a second");
+        arguments::say(
+            b"replay",
+            i,
+            b"one script is replayed, and this is a second",
+        );
+        return misused(a);
     }
     a.file = i;
     a
 }
 
-// Says what is wrong with argument i.
-fn wrong(mut a: Asked, i: usize, fault: &[u8]) -> Asked {
-    let mut text = io::buffer();
-    let n = os::arg(i, &mut text);
-    messages::say(b"replay", &text[..n], fault);
+fn no_option(a: Asked, i: usize, is: usize) -> Asked {
+    arguments::say_no_option(b"replay", i, is);
+    misused(a)
+}
+
+fn misused(mut a: Asked) -> Asked {
     a.status = status::MISUSED;
     a
 }
