@@ -7,14 +7,14 @@ ghost use Rattle.program.specs.Sizes.{nameBytes};
 ghost use Rattle.receipt.specs.Sizes.{lineBytes};
 use crate::entry;
 use crate::entry::Entry;
-use crate::fingerprint;
-use crate::fingerprint::Fingerprint;
 use crate::line;
 use crate::line::LINE;
 use crate::messages;
+use crate::options;
 use crate::options::Asked;
-use crate::reading;
 use finalization::RECEIPT;
+use fingerprint::Fingerprint;
+use fingerprint::reading;
 use program::files;
 use program::lines;
 
@@ -175,11 +175,12 @@ fn file(a: Asked, key: &[u8], e: Entry, listed: [u8; RECEIPT], name: &[u8]) -> u
 fn of_file(a: Asked, key: &[u8], listed: [u8; RECEIPT], name: &[u8]) -> Fingerprint
     ensures { λ r. ⌜ (r .from ≤ r .to) × (r .to ≤ receiptBytes) ⌝ }
 {
+    let mut k = options::kind(a);
     if has_receipts(a) {
-        let w = listed[0] as u64;
-        return fingerprint::of_file(a, w, same::digest_length_of(&listed), key, name);
+        k.w = listed[0] as u64;
+        k.n = same::digest_length_of(&listed);
     }
-    fingerprint::of_file(a, a.w, a.n, key, name)
+    fingerprint::of_file(k, key, name)
 }
 
 // Whether the file is as listed. Receipts are compared by Same; of a digest or a tag every byte is compared, as in the check of a tag.

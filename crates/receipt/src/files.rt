@@ -6,10 +6,10 @@ ghost use Rattle.program.specs.Sizes.{nameBytes};
 ghost use Rattle.receipt.specs.Sizes.{listBytes};
 use crate::arguments;
 use crate::check;
-use crate::fingerprint;
 use crate::line;
 use crate::list;
 use crate::messages;
+use crate::options;
 use crate::options::Asked;
 use finalization::RECEIPT;
 use program::status;
@@ -116,7 +116,7 @@ fn named(a: Asked, key: &[u8], name: &[u8]) -> Done
 fn printed(a: Asked, key: &[u8], name: &[u8]) -> Done
     requires { ⌜ length (now name) ≤ nameBytes ⌝ }
 {
-    let f = fingerprint::of_file(a, a.w, a.n, key, name);
+    let f = fingerprint::of_file(options::kind(a), key, name);
     if !f.good {
         return without_receipt(false, true);
     }

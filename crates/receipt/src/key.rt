@@ -85,7 +85,7 @@ fn size_of(name: &[u8], good: bool, size: usize) -> usize
     size
 }
 
-// Reads until the room is full or the file ends. The reads are counted down as in reading.rt.
+// Reads until the room is full or the file ends. The reads are counted down as in crates/fingerprint.
 fn fill(fd: i32, name: &[u8], room: &mut [u8]) -> Filled
     requires { ⌜ keyRoom ≡ length (now room) ⌝ }
     ensures { λ r. ⌜ r .size ≤ keyRoom ⌝ }

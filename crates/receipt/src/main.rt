@@ -4,13 +4,11 @@ mod arguments;
 mod check;
 mod entry;
 mod files;
-mod fingerprint;
 mod key;
 mod line;
 mod list;
 mod messages;
 mod options;
-mod reading;
 
 use options::Asked;
 use program::status;

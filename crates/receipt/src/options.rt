@@ -1,6 +1,7 @@
 // What the options ask for, and whether they suit each other.
 use crate::arguments;
 use crate::messages;
+use fingerprint::Kind;
 use program::arguments::Argument;
 use program::arguments::FILE;
 use program::arguments::UNKNOWN;
@@ -25,6 +26,16 @@ pub struct Asked {
     pub input_taken: bool,
     // DONE; or else nothing is done, since an option is wrong, or help or the version is asked for.
     pub status: u64,
+}
+
+// What is asked for of each file.
+pub fn kind(a: Asked) -> Kind {
+    Kind {
+        w: a.w,
+        n: a.n,
+        digest: a.digest,
+        input_taken: a.input_taken,
+    }
 }
 
 // What is asked for.

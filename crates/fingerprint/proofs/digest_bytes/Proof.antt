@@ -1,10 +1,10 @@
--- `receipt::fingerprint::digest_bytes` meets its contract. Assumes nothing.
+-- `fingerprint::digest_bytes` meets its contract. Assumes nothing.
 use native.Mathlib.Omega.{arith}
 use borrow.Author.Needs.{needs}
 use Rattle.lsh.specs.WordSize.{sizeOf, lsh512}
 use Rattle.receipts.specs.Receipt.{receiptBytes}
-use Rattle.receipt.proofs.fingerprint.digest_bytes.Statement.{statement}
-use Rattle.receipt.proofs.fingerprint.digest_bytes.Tie as tie
+use Rattle.fingerprint.proofs.digest_bytes.Statement.{statement}
+use Rattle.fingerprint.proofs.digest_bytes.Tie as tie
 
 pub digest-bytes-spec : {M : Type 1} → statement M
 unfolding sizeOf lsh512 receiptBytes

@@ -1,9 +1,9 @@
--- `receipt::reading::read_all` is safe and ends. The measure is the number of reads that are left. Assumes nothing.
+-- `fingerprint::reading::read_all` is safe and ends. The measure is the number of reads that are left. Assumes nothing.
 use mathlib.Core.Path.{_≡_, refl}
 use native.Mathlib.Omega.{arith}
 use lib.ListN.{length}
-use Rattle.receipt.proofs.reading.read_all.Statement.{statement}
-use Rattle.receipt.proofs.reading.read_all.Tie as tie
+use Rattle.fingerprint.proofs.reading.read_all.Statement.{statement}
+use Rattle.fingerprint.proofs.reading.read_all.Tie as tie
 
 abbrev Inv-loop : tie.InvT-loop
 Inv-loop fd name chunk₀ t₀ reads₀ chunk t reads = length chunk ≡ length chunk₀

@@ -1,9 +1,9 @@
--- `receipt::fingerprint::of_record` meets its contract. Assumes nothing.
+-- `fingerprint::of_record` meets its contract. Assumes nothing.
 use native.Mathlib.Omega.{arith}
 use borrow.Author.Needs.{needs}
 use Rattle.receipts.specs.Receipt.{receiptBytes}
-use Rattle.receipt.proofs.fingerprint.of_record.Statement.{statement}
-use Rattle.receipt.proofs.fingerprint.of_record.Tie as tie
+use Rattle.fingerprint.proofs.of_record.Statement.{statement}
+use Rattle.fingerprint.proofs.of_record.Tie as tie
 
 pub of-record-spec : {M : Type 1} → statement M
 unfolding receiptBytes

@@ -1,8 +1,8 @@
-// What is printed of a file: its receipt, the digest of the receipt alone, or its tag with a key.
+// What `receipt` prints of a file: its receipt, the digest of the receipt alone, or its tag with a key.
+pub mod reading;
+
 ghost use Prim.Native.Nat.{_+_, _-_, _≤_};
 ghost use Rattle.receipts.specs.Receipt.{receiptBytes, digestPlace, lengthPlace};
-use crate::options::Asked;
-use crate::reading;
 use finalization::DIGEST;
 use finalization::LENGTH;
 use finalization::RECEIPT;
@@ -23,19 +23,27 @@ pub struct Fingerprint {
     pub bits: u64,
 }
 
-// What is printed of the file of a name, with word size w and digest length n. A key is not empty, and without one a receipt is made.
-pub fn of_file(a: Asked, w: u64, n: u64, key: &[u8], name: &[u8]) -> Fingerprint
+// What is asked for: the word size, the digest length, whether the digest alone, and whether standard input is read for something else than a file.
+pub struct Kind {
+    pub w: u64,
+    pub n: u64,
+    pub digest: bool,
+    pub input_taken: bool,
+}
+
+// What is printed of the file of a name. A key is not empty, and without one a receipt is made.
+pub fn of_file(k: Kind, key: &[u8], name: &[u8]) -> Fingerprint
     ensures { λ r. ⌜ (r .from ≤ r .to) × (r .to ≤ receiptBytes) ⌝ }
 {
-    let opened = started(w, n, key);
-    let t = reading::read_file(name, a.input_taken, opened);
+    let opened = started(k.w, k.n, key);
+    let t = reading::read_file(name, k.input_taken, opened);
     if !t.good {
         return none();
     }
     if key.len() != 0 {
         return tagged(t.record, bits_since(opened.total, t.record.total), key);
     }
-    of_record(t.record, a.digest)
+    of_record(t.record, k.digest)
 }
 
 // The record to which a file is appended.

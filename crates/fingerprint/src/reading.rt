@@ -1,7 +1,7 @@
 // Files read in chunks, and what they hold appended to a record.
-use crate::messages;
 use orders::Record;
 use program::files;
+use program::messages;
 
 // The record of a file's bytes, if they could be read.
 pub struct Reading {
@@ -26,6 +26,7 @@ pub fn read_file(name: &[u8], input_taken: bool, opened: Record) -> Reading {
 pub fn open_file(name: &[u8], input_taken: bool) -> i32 {
     if input_taken & files::is_standard_input(name) {
         messages::say(
+            b"receipt",
             name,
             b"standard input is read for the key or the list already",
         );
@@ -50,7 +51,7 @@ fn read_all(fd: i32, name: &[u8], opened: Record) -> Reading {
 fn read_some(fd: i32, name: &[u8], r: Record, chunk: &mut [u8]) -> Reading {
     let got = libc::read(fd, chunk);
     if got < 0 {
-        messages::fail(name);
+        messages::fail(b"receipt", name);
         return so_far(false, false, r);
     }
     let n = io::count(got, chunk);
@@ -65,6 +66,7 @@ fn append(name: &[u8], r: Record, piece: &[u8]) -> Reading {
     let o = append::append(r, piece);
     if o.number != 0 {
         messages::say(
+            b"receipt",
             name,
             b"it has more than 2^40 bytes, the key's block counted if there is a key",
         );

@@ -1,9 +1,9 @@
--- `receipt::fingerprint::tagged` meets its contract. Assumes nothing.
+-- `fingerprint::tagged` meets its contract. Assumes nothing.
 use native.Mathlib.Omega.{arith}
 use borrow.Author.Needs.{needs}
 use Rattle.receipts.specs.Receipt.{receiptBytes}
-use Rattle.receipt.proofs.fingerprint.tagged.Statement.{statement}
-use Rattle.receipt.proofs.fingerprint.tagged.Tie as tie
+use Rattle.fingerprint.proofs.tagged.Statement.{statement}
+use Rattle.fingerprint.proofs.tagged.Tie as tie
 
 pub tagged-spec : {M : Type 1} → statement M
 unfolding receiptBytes
