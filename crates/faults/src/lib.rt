@@ -8,7 +8,7 @@ use script::ROLL;
 // The most lines of which it is said.
 const MOST: u64 = 100;
 
-// Why a line is no call: the places of the sentences in `say`. Up to LENGTHS it is for the line, and from NO_NUMBER on for one of its words.
+// Why a line is no call: the places of the sentences in `say_why`. Up to LENGTHS it is for the line, and from NO_NUMBER on for one of its words.
 const RETURN: u64 = 0;
 
 const SPACES: u64 = 1;
