@@ -16,8 +16,8 @@ pub const HELP: u64 = 3;
 
 pub const VERSION: u64 = 4;
 
-// The descriptor of the word.
-const WORD: i32 = 3;
+// The descriptor of the word, a number that a caller hardly has in use.
+const WORD: i32 = 99;
 
 // Says how the program of a name ended.
 pub fn end(program: &[u8], status: u64) {

@@ -73,7 +73,10 @@ done
     try 0 '' '"$kiosk" receipt abc >/dev/null 2>&-'
 }
 # A file takes no place of standard input that is closed.
-expect_of 1 "$abc256  abc"$'\n' $'receipt: -: Bad file descriptor\n' bash -c "$root/target/bin/receipt --digest abc - <&- 3>word; exit \$(cat word)"
+expect_of 1 "$abc256  abc"$'\n' $'receipt: -: Bad file descriptor\n' bash -c "$root/target/bin/receipt --digest abc - <&- 99>word; exit \$(cat word)"
+# Other descriptors of the caller are the program's too.
+expect_of 0 "$(cd "$work" && "$root/kiosk" receipt --key key abc)"$'\n' '' bash -c "$root/kiosk receipt --key /dev/fd/3 abc 3<key"
+expect_of 0 "$abc256  "$'\n' '' bash -c "$root/kiosk receipt --digest <(printf abc) | sed 's/  .*/  /'"
 # A program whose output nobody reads has failed.
 for _ in {1..3000}; do printf '%s  abc\n' "$receipt256"; done >"$work/many"
 for words in 'receipt --check many' 'replay many' 'order many many'; do
@@ -154,7 +157,7 @@ expect_of 0 "$(./kiosk receipt --help)"$'\n' '' in_tree receipt --help
 expect_of 0 "replay $version"$'\n' '' in_tree replay --version
 stand_in "[ \"\$*\" = 'check receipt' ] || exit 1
 echo rt: low proved '(unchanged since it was last proved)'; echo rt: side proved '(9 s)'; printf 'rt: rec'; sleep 2; echo eipt proved '(1 s)'; echo rt: receipt ran
-mkdir -p target/bin && printf '#!/bin/sh\necho a receipt of \$1; echo 0 >&3\n' >target/bin/receipt && chmod +x target/bin/receipt"
+mkdir -p target/bin && printf '#!/bin/bash\necho a receipt of \$1; echo 0 >&99\n' >target/bin/receipt && chmod +x target/bin/receipt"
 progress=$'kiosk: 2 of 3 crates proved in TIME, the last: side\nkiosk: 3 of 3 crates proved in TIME, the last: receipt\nkiosk: built in TIME\n'
 expect_of 0 $'a receipt of abc\n' "$building$progress" in_tree receipt abc
 expect_of 0 $'a receipt of abc\n' '' in_tree receipt abc
@@ -165,12 +168,12 @@ line='\|kiosk: [23] of 3 crates proved in [0-9]+:[0-9]{2}, the last: '
 [[ $screen =~ ${line}side.*${line}receipt'|kiosk: built in '[0-9:]+'a receipt of abc'$ ]] || fail "what a terminal shows: $screen"
 passed 1
 # A word that is no status, or none, is no success.
-for word in 'echo 3 >&3' 'echo >&3' 'printf 3 >&3' ':' 'exit 7'; do
-    printf '#!/bin/sh\n%s\n' "$word" >"$tree/target/bin/receipt"
+for word in 'echo 3 >&99' 'echo >&99' 'printf 3 >&99' ':' 'exit 7'; do
+    printf '#!/bin/bash\n%s\n' "$word" >"$tree/target/bin/receipt"
     expect_of 1 '' "kiosk: receipt died, with status $([ "$word" = 'exit 7' ] && echo 7 || echo 0)"$'\n' in_tree receipt
 done
 for word in 0 1 2; do
-    printf '#!/bin/sh\necho %s >&3\n' "$word" >"$tree/target/bin/receipt"
+    printf '#!/bin/bash\necho %s >&99\n' "$word" >"$tree/target/bin/receipt"
     expect_of "$word" '' '' in_tree receipt
 done
 # An example is built with the archive, and again when a source of it is newer.
