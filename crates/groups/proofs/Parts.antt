@@ -1,6 +1,6 @@
 -- What is done with 16 words in groups is what the definition of LSH does with the words, for every word size: the two write out the same words.
 -- Assumes nothing.
-use mathlib.Core.Path.{_≡_, refl}
+use mathlib.Core.Path.{_≡_, refl, ap}
 use mathlib.Core.List.{List, _++_}
 use Prim.Native.Nat.{ℕ}
 use Rattle.lsh.specs.Tabulate.{tabulate, tabulateFrom}
@@ -29,6 +29,15 @@ module _ (z : WordSize) (j : ℕ) (t : List ℕ) where
   pub unmix-groups : unmixGroups z j (inGroups t) ≡ inGroups (unmix z j t)
   unfolding inGroups group unmixGroups unmixPair eachWord wordwise unmix lanes unmixedLane unmixLane tabulate tabulateFrom
   unmix-groups = refl
+
+  -- the words of the mix
+  pub mixed-words : inWords (mixGroups z j (inGroups t)) ≡ mix z j t
+  unfolding inWords inGroups group mix lanes tabulate tabulateFrom
+  mixed-words = ap inWords mix-groups
+
+  pub unmixed-words : inWords (unmixGroups z j (inGroups t)) ≡ unmix z j t
+  unfolding inWords inGroups group unmix lanes tabulate tabulateFrom
+  unmixed-words = ap inWords unmix-groups
 
 module _ (t : List ℕ) where
   pub permute-groups : permuteGroups (inGroups t) ≡ inGroups (permute t)

@@ -3,6 +3,7 @@ pub mod Words
 pub mod Places
 pub mod Constants
 pub mod Lanes
+pub mod Groups
 pub mod Rows
 pub mod Turns
 pub mod Runs
