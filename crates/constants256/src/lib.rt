@@ -38,7 +38,7 @@ const SC_0: [u32; 8] = [
 ];
 
 // Four words from place a on.
-fn four(m: &[u32], a: usize) -> [u32; 4]
+pub fn four(m: &[u32], a: usize) -> [u32; 4]
     requires { ⌜ a + 4 ≤ length (now m) ⌝ }
     ensures { λ r. ⌜ r ≡ four (now (m .entry)) a ⌝ }
 {

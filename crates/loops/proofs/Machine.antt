@@ -1,10 +1,10 @@
 -- What the machine's operators give on words of w bits, in the definitions' terms.
 -- Assumes nothing.
-use mathlib.Core.Path.{_≡_, refl, sym, ap, ap₂, _∙_, subst}
+use mathlib.Core.Path.{_≡_, refl, sym, ap, ap₂, _∙_, subst, subst⁻¹}
 use Prim.Native.Nat.{ℕ, zero, suc, _+_, _-_, _*_, _/_, _%_, _^_, _≤_, _<_}
-use native.Mathlib.Nat.{mod-lt, add-mod, mod-eq-of-lt, mul-mod-left, add-zero, sub-zero, zero-add, zero-mul, mod-one, div-one, div-eq-of-lt}
+use native.Mathlib.Nat.{le-of-lt, lt-of-le-of-lt, mul-le-mul-left, mul-lt-mul-of-pos-right, mod-lt, add-mod, mod-eq-of-lt, mul-mod-left, add-zero, sub-zero, zero-add, zero-mul, mod-one, mod-self, div-one, div-eq-of-lt}
 use native.Mathlib.Omega.{arith}
-use lib.Pow.{mod-pow-add, shl-shr, shr-lt}
+use lib.Pow.{pow-pos, pow-lt, pow-add, mod-pow-add, shl-shr, shr-shr, shr-lt}
 use lib.Arith.{lt-one}
 use lib.Bits.{bitOr, bitXor, or-shifted, or-shifted-r, xor-step, differ}
 use Rattle.lsh.specs.Word.{add, subtract, turn, rotateLeft, rotateRight, xor}
@@ -50,6 +50,46 @@ unfolding rotateRight turn
 right-none w k x e h =
     rw e
     (sym (ap₂ (λ (p q : ℕ). p * 2 ^ (w - 0) + q) (mod-one x) (div-one x) ∙ ap (λ (n : ℕ). n + x) (zero-mul (2 ^ (w - 0))) ∙ zero-add x))
+
+-- by l to the left is by what is left of the width to the right
+pub left-right-is : (w l h x : ℕ) → l + h ≡ w → rotateLeft w l x ≡ rotateRight w h x
+unfolding rotateLeft rotateRight
+left-right-is w l h x e =
+    let low : w - l ≡ h = omega arith in
+    let high : l ≡ w - h = omega arith in
+    ap₂ (λ (j k : ℕ). turn j k x) low high
+
+pub right-left-is : (w k x : ℕ) → k < w → x < 2 ^ w → rotateLeft w ((w - k) % w) x ≡ rotateRight w k x
+right-left-is w zero x hk hx =
+    let none : (w - 0) % w ≡ 0 = ap (λ (n : ℕ). n % w) (sub-zero w) ∙ mod-self w in
+    sym (left-none w ((w - 0) % w) x none hx) ∙ right-none w 0 x refl hx
+right-left-is w (suc k) x hk hx =
+    let less : (w - suc k) % w ≡ w - suc k = mod-eq-of-lt (omega arith) in
+    ap (λ (l : ℕ). rotateLeft w l x) less ∙ left-right-is w (w - suc k) (suc k) x (omega arith)
+
+-- two shifts whose amounts are the width together
+pub turned-is : (w l h x : ℕ) → l + h ≡ w → x < 2 ^ w
+    → (bitOr ((x * 2 ^ l) % 2 ^ w) (x / 2 ^ h) ≡ rotateLeft w l x) × (bitOr ((x * 2 ^ l) % 2 ^ w) (x / 2 ^ h) ≡ rotateRight w h x)
+turned-is w l h x e hx =
+    let rest : h ≡ w - l = omega arith in
+    let left : bitOr ((x * 2 ^ l) % 2 ^ w) (x / 2 ^ h) ≡ rotateLeft w l x = rw rest (left-is w l x (omega arith) hx) in
+    (left, left ∙ left-right-is w l h x e)
+
+-- a product of two words has at most twice their bits
+pub product-lt : (k : ℕ) {a b : ℕ} → a < 2 ^ k → b < 2 ^ k → a * b < 2 ^ (k + k)
+product-lt k {a} {b} ha hb =
+    subst⁻¹ (λ (n : ℕ). a * b < n) (pow-add 2 k k)
+    (lt-of-le-of-lt (mul-le-mul-left a (le-of-lt hb)) (mul-lt-mul-of-pos-right ha (pow-pos k)))
+
+-- the two halves of a product with 2 to the k, where the code has x as r and cuts the power to the width
+pub product-is : (w k x : ℕ) {r p : ℕ} → r ≡ x → p ≡ 2 ^ k → k < w → x < 2 ^ w
+    → bitOr ((r * (p % 2 ^ w)) % 2 ^ w) (r * (p % 2 ^ w) / 2 ^ w) ≡ rotateLeft w k x
+product-is w k x {r} {p} er ep hk hx =
+    let e : k + (w - k) ≡ w = omega arith in
+    let power : p % 2 ^ w ≡ 2 ^ k = ap (λ (n : ℕ). n % 2 ^ w) ep ∙ mod-eq-of-lt (pow-lt hk) in
+    let high : x * 2 ^ k / 2 ^ w ≡ x / 2 ^ (w - k) =
+    ap (λ (n : ℕ). x * 2 ^ k / 2 ^ n) (sym e) ∙ sym (shr-shr (x * 2 ^ k) k (w - k)) ∙ ap (λ (n : ℕ). n / 2 ^ (w - k)) (shl-shr x k) in
+    ap₂ (λ (m n : ℕ). bitOr ((m * n) % 2 ^ w) (m * n / 2 ^ w)) er power ∙ rw high (left-is w k x (le-of-lt hk) hx)
 
 -- differences: the number to which y is added to give x
 pub sub-is : (w r x y : ℕ) → r < 2 ^ w → y < 2 ^ w → (r + y) % 2 ^ w ≡ x → r ≡ subtract w x y

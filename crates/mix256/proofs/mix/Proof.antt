@@ -1,0 +1,34 @@
+-- `mix256::mix` meets its contract. Assumes nothing.
+use mathlib.Core.Path.{ap₂, _∙_}
+use mathlib.Core.List.{List}
+use Prim.Native.Nat.{ℕ}
+use borrow.Author.Needs.{needs}
+use Rattle.lsh.specs.WordSize.{lsh256}
+use Rattle.groups.specs.GroupStep.{pair, mixPair}
+use Rattle.loops.proofs.Groups.{mixed-by-groups}
+use Rattle.mix256.proofs.mix.Statement.{statement}
+use Rattle.mix256.proofs.mix.Tie as tie
+
+pub mix-spec : {M : Type 1} → statement M
+unfolding lsh256
+mix-spec =
+    tie.close
+    (tie.spec
+    (λ c. search needs)
+    (λ c κs. search needs)
+    (λ c. search needs)
+    (λ c κs. search needs)
+    (λ c κs. search needs)
+    (λ c. search needs)
+    (λ c κs. search needs)
+    (λ c. search needs)
+    (λ c κs. search needs)
+    (λ c κs. search needs)
+    (λ c κs. search needs)
+    (λ c.
+    let q = c .before .before .before .before .before in
+    let p = q .before .before .before .before .before in
+    let z = p .before .before .before .before .before in
+    mixed-by-groups lsh256 (z .args .j) (z .args .t5) (c .in-words .ensures)
+    (p .mix-pair .ensures ∙ ap₂ (λ (x y : List ℕ). mixPair lsh256 (z .args .j) 0 (pair x y)) (p .before .before .before .four .ensures) (p .before .four2 .ensures))
+    (q .mix-pair2 .ensures ∙ ap₂ (λ (x y : List ℕ). mixPair lsh256 (z .args .j) 1 (pair x y)) (q .before .before .before .four3 .ensures) (q .before .four4 .ensures))))

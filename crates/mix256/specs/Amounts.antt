@@ -1,0 +1,18 @@
+-- The amounts of a step's rotations, as the code has them.
+-- Assumes nothing.
+use mathlib.Core.List.{List, [], _∷_}
+use Prim.Native.Nat.{ℕ, _-_, _%_, _^_}
+use Rattle.lsh.specs.Tabulate.{tabulate}
+use Rattle.lsh.specs.WordSize.{WordSize, alpha, beta, gamma}
+
+-- step j: alpha to the left, and what is left of the width; beta to the left, and what is left of the width
+unfoldable pub shifts : WordSize → ℕ → List ℕ
+shifts z j = alpha z j ∷ (z .bits - alpha z j) ∷ beta z j ∷ (z .bits - beta z j) ∷ []
+
+-- a rotation by so much to the left is one by gamma to the right
+unfoldable pub remaining : WordSize → ℕ → ℕ
+remaining z l = (z .bits - gamma z l) % z .bits
+
+-- 2 to the amounts of lanes 0 to 7, for the even steps and once more for the odd
+unfoldable pub powers : (ℕ → ℕ) → List ℕ
+powers f = tabulate 16 (λ k. 2 ^ f (k % 8))
