@@ -8,7 +8,7 @@ use lib.Pow.{pow-pos, pow-lt, pow-add, mod-pow-add, shl-shr, shr-shr, shr-lt}
 use lib.Arith.{lt-one}
 use lib.Bits.{bitOr, bitXor, or-shifted, or-shifted-r, xor-step, differ}
 use Rattle.lsh.specs.Word.{add, subtract, turn, rotateLeft, rotateRight, xor}
-use Rattle.lsh.proofs.Word.{sub-add, low-first, high-first}
+use Rattle.lsh.proofs.Word.{sub-add, low-first, high-first, rotateLeft-lt}
 
 -- rotations: `x << k | x >> j`, and the other way round, in a word of j + k bits
 up : (j k x : ℕ) → (x * 2 ^ k) % 2 ^ (j + k) ≡ (x % 2 ^ j) * 2 ^ k
@@ -81,15 +81,21 @@ product-lt k {a} {b} ha hb =
     subst⁻¹ (λ (n : ℕ). a * b < n) (pow-add 2 k k)
     (lt-of-le-of-lt (mul-le-mul-left a (le-of-lt hb)) (mul-lt-mul-of-pos-right ha (pow-pos k)))
 
--- the two halves of a product with 2 to the k, where the code has x as r and cuts the power to the width
+-- the sum of the two halves of a product with 2 to the k, where the code has x as r and cuts the power to the width
 pub product-is : (w k x : ℕ) {r p : ℕ} → r ≡ x → p ≡ 2 ^ k → k < w → x < 2 ^ w
-    → bitOr ((r * (p % 2 ^ w)) % 2 ^ w) (r * (p % 2 ^ w) / 2 ^ w) ≡ rotateLeft w k x
+    → add w ((r * (p % 2 ^ w)) % 2 ^ w) (r * (p % 2 ^ w) / 2 ^ w) ≡ rotateLeft w k x
+unfolding add rotateLeft turn
 product-is w k x {r} {p} er ep hk hx =
-    let e : k + (w - k) ≡ w = omega arith in
+    let below : w - k + k ≡ w = omega arith in
+    let above : k + (w - k) ≡ w = omega arith in
     let power : p % 2 ^ w ≡ 2 ^ k = ap (λ (n : ℕ). n % 2 ^ w) ep ∙ mod-eq-of-lt (pow-lt hk) in
+    let low : (x * 2 ^ k) % 2 ^ w ≡ (x % 2 ^ (w - k)) * 2 ^ k =
+    subst (λ (n : ℕ). (x * 2 ^ k) % 2 ^ n ≡ (x % 2 ^ (w - k)) * 2 ^ k) below (up (w - k) k x) in
     let high : x * 2 ^ k / 2 ^ w ≡ x / 2 ^ (w - k) =
-    ap (λ (n : ℕ). x * 2 ^ k / 2 ^ n) (sym e) ∙ sym (shr-shr (x * 2 ^ k) k (w - k)) ∙ ap (λ (n : ℕ). n / 2 ^ (w - k)) (shl-shr x k) in
-    ap₂ (λ (m n : ℕ). bitOr ((m * n) % 2 ^ w) (m * n / 2 ^ w)) er power ∙ rw high (left-is w k x (le-of-lt hk) hx)
+    ap (λ (n : ℕ). x * 2 ^ k / 2 ^ n) (sym above) ∙ sym (shr-shr (x * 2 ^ k) k (w - k)) ∙ ap (λ (n : ℕ). n / 2 ^ (w - k)) (shl-shr x k) in
+    ap₂ (λ (m n : ℕ). ((m * n) % 2 ^ w + m * n / 2 ^ w) % 2 ^ w) er power
+    ∙ ap₂ (λ (m n : ℕ). (m + n) % 2 ^ w) low high
+    ∙ mod-eq-of-lt (rotateLeft-lt w k x (le-of-lt hk) hx)
 
 -- differences: the number to which y is added to give x
 pub sub-is : (w r x y : ℕ) → r < 2 ^ w → y < 2 ^ w → (r + y) % 2 ^ w ≡ x → r ≡ subtract w x y

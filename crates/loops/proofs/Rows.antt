@@ -50,29 +50,35 @@ length-sub z b j =
     let two : j + 1 + 1 ≡ suc (suc j) = omega arith in
     ap (λ (i : ℕ). length (subMessage z b i)) two ∙ length-tabulate 16 _
 
-pub expanded-more : {z : WordSize} {b m : List ℕ} (j : ℕ) (o r : List ℕ) → Expanded z b m (j + 1) → j + 2 ≤ z .steps
-    → r ≡ subMessage z b (j + 1 + 1) → o ≡ sets m ((j + 2) * 16) r → Expanded z b o (j + 1 + 1)
-unfolding expandedWords row
-expanded-more {z} {b} {m} j o r h le er eo =
-    record {
-      len = ap length eo ∙ length-sets m ((j + 2) * 16) r ∙ h .len;
-      rows = λ i hi. go i hi (ℕ-discrete i (j + 1 + 1));
-    }
+-- the next row is put behind those that are there, where there is room
+pub rows-more : (z : WordSize) (b m : List ℕ) (j : ℕ) (o r : List ℕ) → ((i : ℕ) → i ≤ j + 1 → row m i ≡ subMessage z b i) → (j + 3) * 16 ≤ length m
+    → r ≡ subMessage z b (j + 1 + 1) → o ≡ sets m ((j + 2) * 16) r → (i : ℕ) → i ≤ j + 1 + 1 → row o i ≡ subMessage z b i
+unfolding row
+rows-more z b m j o r rows room er eo i hi = go (ℕ-discrete i (j + 1 + 1))
   where
     sixteen : length r ≡ 16
     sixteen = ap length er ∙ length-sub z b j
 
-    go : (i : ℕ) → i ≤ j + 1 + 1 → Dec (i ≡ j + 1 + 1) → tabulate 16 (λ l. at o (i * 16 + l)) ≡ subMessage z b i
-    go i hi (yes last) =
+    go : Dec (i ≡ j + 1 + 1) → tabulate 16 (λ l. at o (i * 16 + l)) ≡ subMessage z b i
+    go (yes last) =
         tabulate-ext 16 _ r sixteen
         (λ l hl.
         let place : i * 16 + l ≡ (j + 2) * 16 + l = omega arith in
-        ap₂ at eo place ∙ at-sets-in m ((j + 2) * 16) r l (rw (sixteen, h .len) (omega arith)) (rw sixteen hl))
+        ap₂ at eo place ∙ at-sets-in m ((j + 2) * 16) r l (rw sixteen (omega arith)) (rw sixteen hl))
         ∙ er ∙ ap (subMessage z b) (sym last)
-    go i hi (no before) =
+    go (no before) =
         tabulate-cong 16 _ _
         (λ l hl. ap (λ (s : List ℕ). at s (i * 16 + l)) eo ∙ at-sets-before m ((j + 2) * 16) r (i * 16 + l) (omega arith))
-        ∙ h .rows i (omega arith)
+        ∙ rows i (omega arith)
+
+pub expanded-more : {z : WordSize} {b m : List ℕ} (j : ℕ) (o r : List ℕ) → Expanded z b m (j + 1) → j + 2 ≤ z .steps
+    → r ≡ subMessage z b (j + 1 + 1) → o ≡ sets m ((j + 2) * 16) r → Expanded z b o (j + 1 + 1)
+unfolding expandedWords
+expanded-more {z} {b} {m} j o r h le er eo =
+    record {
+      len = ap length eo ∙ length-sets m ((j + 2) * 16) r ∙ h .len;
+      rows = rows-more z b m j o r (h .rows) (rw (h .len) (omega arith)) er eo;
+    }
 
 -- fewer of them
 pub expanded-upTo : {z : WordSize} {b m : List ℕ} {j s : ℕ} → Expanded z b m j → s ≤ j → Expanded z b m s

@@ -133,12 +133,13 @@ fn wide(x: u32) -> u64
     x as u64
 }
 
-// By k to the left, where p is 2 to the k: the two halves of the product.
+// By k to the left, where p is 2 to the k: the two halves of the product together. (They have no bit in common; with a sum in place of an or the compiler keeps them apart,
+// and takes fewer instructions.)
 fn turn_by_power(x: u32, p: u64) -> u32
     ensures { λ r. ⌜ ((k : ℕ) → k < 32 → p ≡ 2 ^ k → r ≡ rotateLeft 32 k x) ⌝ }
 {
     let q = wide(x) * (p % 4294967296);
-    (q % 4294967296) as u32 | (q >> 32) as u32
+    word32::add((q % 4294967296) as u32, (q >> 32) as u32)
 }
 
 // Each word by the amount of its lane, 4l to 4l + 3: f of the lane, if the powers are those of f.
