@@ -1,11 +1,11 @@
 // The step constants of LSH-256. The first row is stored, and the others are worked out by their rule (14).
 ghost use mathlib.Core.Path.{_≡_};
-ghost use Prim.Native.Nat.{_+_, _*_, _<_, _≤_};
+ghost use Prim.Native.Nat.{_+_, _≤_};
 ghost use lib.ListN.{length};
 ghost use lib.Seq.{sets};
 ghost use Rattle.lsh.specs.WordSize.{lsh256};
 ghost use Rattle.lsh.specs.StepConstants.{constants};
-ghost use Rattle.loops.specs.Constants.{four, nextFourConstants, withFourConstants};
+ghost use Rattle.loops.specs.Constants.{nextConstant, nextRow};
 
 // The figures of the word size.
 pub struct Lsh256 {}
@@ -37,51 +37,30 @@ const SC_0: [u32; 8] = [
     0x2eeb2642,
 ];
 
-// Four words from place a on.
-pub fn four(m: &[u32], a: usize) -> [u32; 4]
-    requires { ⌜ a + 4 ≤ length (now m) ⌝ }
-    ensures { λ r. ⌜ r ≡ four (now (m .entry)) a ⌝ }
+// A constant from the one before it in its lane (14). The two parts of the rotation are added one after the other: a rotation that the
+// compiler sees it does word by word, and this on four words at once.
+fn next_constant(x: u32) -> u32
+    ensures { λ r. ⌜ r ≡ nextConstant lsh256 x ⌝ }
 {
-    let mut r = [0u32; 4];
-    for i in 0..4 {
-        r[i] = m[a + i];
+    word32::add(word32::add(x, x >> 24), x << 8)
+}
+
+fn next_row(p: [u32; 8]) -> [u32; 8]
+    ensures { λ r. ⌜ r ≡ nextRow lsh256 p ⌝ }
+{
+    let mut r = [0u32; 8];
+    for l in 0..8 {
+        r[l] = next_constant(p[l]);
     }
     r
 }
 
-fn put_four(m: &mut [u32], a: usize, r: [u32; 4])
-    requires { ⌜ a + 4 ≤ length (now m) ⌝ }
-    ensures { λ _. ⌜ now (m .exit) ≡ sets (now (m .entry)) a r ⌝ }
+fn put_row(sc: &mut [u32], a: usize, p: [u32; 8])
+    requires { ⌜ a + 8 ≤ length (now sc) ⌝ }
+    ensures { λ _. ⌜ now (sc .exit) ≡ sets (now (sc .entry)) a p ⌝ }
 {
-    for i in 0..4 {
-        m[a + i] = r[i];
-    }
-}
-
-// Four lanes of a row, from the same lanes of the row before it (14).
-fn next_four_constants(p: [u32; 4]) -> [u32; 4]
-    ensures { λ r. ⌜ r ≡ nextFourConstants lsh256 p ⌝ }
-{
-    let mut r = [0u32; 4];
-    for i in 0..4 {
-        r[i] = word32::add(p[i], word32::rotate_left(p[i], 8));
-    }
-    r
-}
-
-// Puts lanes 4g to 4g + 3 of every row into the array, row after row. Four lanes stay in registers. The loop serves either g and is too long
-// for the compiler to write out for each; one over a single lane it worked out itself, and stored what it found.
-fn put_four_lanes(sc: &mut [u32], g: usize)
-    requires { ⌜ (length (now sc) ≡ lsh256 .steps * 8) × (g < 2) ⌝ }
-    ensures { λ _. ⌜ now (sc .exit) ≡ withFourConstants lsh256 g (lsh256 .steps) (now (sc .entry)) ⌝ }
-{
-    let first = SC_0;
-    let a = g * 4;
-    let mut p = four(&first, a);
-    for j in 0..Lsh256::STEPS {
-        put_four(sc, j * 8 + a, p);
-        let q = next_four_constants(p);
-        p = q;
+    for l in 0..8 {
+        sc[a + l] = p[l];
     }
 }
 
@@ -90,12 +69,17 @@ fn room() -> [u32; Lsh256::CONSTANTS] {
     [0u32; Lsh256::CONSTANTS]
 }
 
-// All of them, SC_j[l] at 8j + l. A run of blocks works them out once, on its stack, and lends them on.
+// All of them, SC_j[l] at 8j + l, row after row; the row at hand stays in registers. A loop over whole rows is too long for the compiler to write
+// out: one over a single lane it worked out itself, and stored what it found. A run of blocks works them out once, on its stack, and lends them on.
 pub fn step_constants() -> [u32; Lsh256::CONSTANTS]
     ensures { λ r. ⌜ r ≡ constants lsh256 ⌝ }
 {
     let mut sc = room();
-    put_four_lanes(&mut sc, 0);
-    put_four_lanes(&mut sc, 1);
+    let mut p = SC_0;
+    for j in 0..Lsh256::STEPS {
+        put_row(&mut sc, j * 8, p);
+        let q = next_row(p);
+        p = q;
+    }
     sc
 }

@@ -1,11 +1,11 @@
 // The step constants of LSH-512. The first row is stored, and the others are worked out by their rule (14).
 ghost use mathlib.Core.Path.{_≡_};
-ghost use Prim.Native.Nat.{_+_, _*_, _<_, _≤_};
+ghost use Prim.Native.Nat.{_+_, _≤_};
 ghost use lib.ListN.{length};
 ghost use lib.Seq.{sets};
 ghost use Rattle.lsh.specs.WordSize.{lsh512};
 ghost use Rattle.lsh.specs.StepConstants.{constants};
-ghost use Rattle.loops.specs.Constants.{four, nextFourConstants, withFourConstants};
+ghost use Rattle.loops.specs.Constants.{nextConstant, nextRow};
 
 // The figures of the word size.
 pub struct Lsh512 {}
@@ -37,51 +37,34 @@ const SC_0: [u64; 8] = [
     0xd76d15eed9fdf5fe,
 ];
 
-// Four words from place a on.
-fn four(m: &[u64], a: usize) -> [u64; 4]
-    requires { ⌜ a + 4 ≤ length (now m) ⌝ }
-    ensures { λ r. ⌜ r ≡ four (now (m .entry)) a ⌝ }
+// The greatest word.
+const MOST: u64 = 0xffffffffffffffff;
+
+// A constant from the one before it in its lane (14). The two parts of the rotation are added one after the other, x << 8 by differences: a
+// rotation, or a product with 257, that the compiler sees it does word by word, and this on two words at once.
+fn next_constant(x: u64) -> u64
+    ensures { λ r. ⌜ r ≡ nextConstant lsh512 x ⌝ }
 {
-    let mut r = [0u64; 4];
-    for i in 0..4 {
-        r[i] = m[a + i];
+    let low = word64::add(x, x >> 56);
+    word64::subtract(word64::subtract(x << 8, MOST - low), 1)
+}
+
+fn next_row(p: [u64; 8]) -> [u64; 8]
+    ensures { λ r. ⌜ r ≡ nextRow lsh512 p ⌝ }
+{
+    let mut r = [0u64; 8];
+    for l in 0..8 {
+        r[l] = next_constant(p[l]);
     }
     r
 }
 
-fn put_four(m: &mut [u64], a: usize, r: [u64; 4])
-    requires { ⌜ a + 4 ≤ length (now m) ⌝ }
-    ensures { λ _. ⌜ now (m .exit) ≡ sets (now (m .entry)) a r ⌝ }
+fn put_row(sc: &mut [u64], a: usize, p: [u64; 8])
+    requires { ⌜ a + 8 ≤ length (now sc) ⌝ }
+    ensures { λ _. ⌜ now (sc .exit) ≡ sets (now (sc .entry)) a p ⌝ }
 {
-    for i in 0..4 {
-        m[a + i] = r[i];
-    }
-}
-
-// Four lanes of a row, from the same lanes of the row before it (14).
-fn next_four_constants(p: [u64; 4]) -> [u64; 4]
-    ensures { λ r. ⌜ r ≡ nextFourConstants lsh512 p ⌝ }
-{
-    let mut r = [0u64; 4];
-    for i in 0..4 {
-        r[i] = word64::add(p[i], word64::rotate_left(p[i], 8));
-    }
-    r
-}
-
-// Puts lanes 4g to 4g + 3 of every row into the array, row after row. Four lanes stay in registers. The loop serves either g and is too long
-// for the compiler to write out for each; one over a single lane it worked out itself, and stored what it found.
-fn put_four_lanes(sc: &mut [u64], g: usize)
-    requires { ⌜ (length (now sc) ≡ lsh512 .steps * 8) × (g < 2) ⌝ }
-    ensures { λ _. ⌜ now (sc .exit) ≡ withFourConstants lsh512 g (lsh512 .steps) (now (sc .entry)) ⌝ }
-{
-    let first = SC_0;
-    let a = g * 4;
-    let mut p = four(&first, a);
-    for j in 0..Lsh512::STEPS {
-        put_four(sc, j * 8 + a, p);
-        let q = next_four_constants(p);
-        p = q;
+    for l in 0..8 {
+        sc[a + l] = p[l];
     }
 }
 
@@ -90,12 +73,17 @@ fn room() -> [u64; Lsh512::CONSTANTS] {
     [0u64; Lsh512::CONSTANTS]
 }
 
-// All of them, SC_j[l] at 8j + l. A run of blocks works them out once, on its stack, and lends them on.
+// All of them, SC_j[l] at 8j + l, row after row; the row at hand stays in registers. A loop over whole rows is too long for the compiler to write
+// out: one over a single lane it worked out itself, and stored what it found. A run of blocks works them out once, on its stack, and lends them on.
 pub fn step_constants() -> [u64; Lsh512::CONSTANTS]
     ensures { λ r. ⌜ r ≡ constants lsh512 ⌝ }
 {
     let mut sc = room();
-    put_four_lanes(&mut sc, 0);
-    put_four_lanes(&mut sc, 1);
+    let mut p = SC_0;
+    for j in 0..Lsh512::STEPS {
+        put_row(&mut sc, j * 8, p);
+        let q = next_row(p);
+        p = q;
+    }
     sc
 }

@@ -13,7 +13,7 @@ use Rattle.lsh.proofs.Tabulate.{tabulate-ext, tabulate-cong}
 use Rattle.groups.specs.Group.{group}
 use Rattle.groups.specs.GroupStep.{Pair, pair, groups, inGroups, inWords, mixPair, unmixPair, mixGroups, unmixGroups}
 use Rattle.groups.proofs.Parts.{mixed-words, unmixed-words}
-use Rattle.loops.specs.Constants.{four}
+use Rattle.loops.specs.Fours.{four}
 use Rattle.loops.proofs.Constants.{at-constant}
 
 -- four step constants from the first lane of a group on

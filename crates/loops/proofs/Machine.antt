@@ -2,7 +2,7 @@
 -- Assumes nothing.
 use mathlib.Core.Path.{_≡_, refl, sym, ap, ap₂, _∙_, subst, subst⁻¹}
 use Prim.Native.Nat.{ℕ, zero, suc, _+_, _-_, _*_, _/_, _%_, _^_, _≤_, _<_}
-use native.Mathlib.Nat.{le-of-lt, lt-of-le-of-lt, mul-le-mul-left, mul-lt-mul-of-pos-right, mod-lt, add-mod, mod-eq-of-lt, mul-mod-left, add-zero, sub-zero, zero-add, zero-mul, mod-one, mod-self, div-one, div-eq-of-lt}
+use native.Mathlib.Nat.{le-of-lt, lt-of-le-of-lt, mul-le-mul-left, mul-lt-mul-of-pos-right, mod-lt, add-mod, mod-add-mod, add-mod-right, mod-eq-of-lt, mul-mod-left, add-zero, sub-zero, zero-add, zero-mul, mod-one, mod-self, div-one, div-eq-of-lt}
 use native.Mathlib.Omega.{arith}
 use lib.Pow.{pow-pos, pow-lt, pow-add, mod-pow-add, shl-shr, shr-shr, shr-lt}
 use lib.Arith.{lt-one}
@@ -96,6 +96,23 @@ product-is w k x {r} {p} er ep hk hx =
     ap₂ (λ (m n : ℕ). ((m * n) % 2 ^ w + m * n / 2 ^ w) % 2 ^ w) er power
     ∙ ap₂ (λ (m n : ℕ). (m + n) % 2 ^ w) low high
     ∙ mod-eq-of-lt (rotateLeft-lt w k x (le-of-lt hk) hx)
+
+-- a rotation is the sum of its two parts, which are added to y one after the other
+pub add-left : (w k x y : ℕ) → k ≤ w → add w (add w y (x / 2 ^ (w - k))) ((x * 2 ^ k) % 2 ^ w) ≡ add w y (rotateLeft w k x)
+unfolding add rotateLeft turn
+add-left w k x y hk =
+    let e : w - k + k ≡ w = omega arith in
+    mod-add-mod (y + x / 2 ^ (w - k)) (2 ^ w) ((x * 2 ^ k) % 2 ^ w)
+    ∙ ap (λ (n : ℕ). (y + x / 2 ^ (w - k) + n) % 2 ^ w) (ap (λ (n : ℕ). (x * 2 ^ k) % 2 ^ n) (sym e) ∙ up (w - k) k x)
+    ∙ ap (λ (n : ℕ). n % 2 ^ w) (omega arith)
+
+-- a sum by differences: the complement of x is taken off, and then 1
+pub add-is : (w x y : ℕ) → x < 2 ^ w → subtract w (subtract w y (2 ^ w - 1 - x)) 1 ≡ add w x y
+unfolding add subtract
+add-is w x y hx =
+    mod-add-mod (y + (2 ^ w - (2 ^ w - 1 - x))) (2 ^ w) (2 ^ w - 1)
+    ∙ ap (λ (n : ℕ). n % 2 ^ w) (omega arith)
+    ∙ add-mod-right (x + y) (2 ^ w)
 
 -- differences: the number to which y is added to give x
 pub sub-is : (w r x y : ℕ) → r < 2 ^ w → y < 2 ^ w → (r + y) % 2 ^ w ≡ x → r ≡ subtract w x y

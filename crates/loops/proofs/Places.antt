@@ -53,6 +53,18 @@ pub filled-all : {n : ℕ} {f : ℕ → ℕ} {m₀ m : List ℕ} {i : ℕ} → P
 filled-all {n} {f} {m₀} {m} {i} h le e =
     sym (tabulate-ext n f m (h .len ∙ e) (λ k hk. sym (h .done k (omega arith))))
 
+-- several stores at a time
+pub filled-several : {n : ℕ} {f : ℕ → ℕ} {m₀ m : List ℕ} {i : ℕ} (vs : List ℕ) → Placed n (λ k. k) f m₀ m i → i + length vs ≤ n → n ≤ length m₀
+    → ((k : ℕ) → k < length vs → at vs k ≡ f (i + k)) → Placed n (λ k. k) f m₀ (sets m i vs) (i + length vs)
+filled-several {n} {f} {m₀} {m} {i} [] h le room e =
+    subst (Placed n (λ k. k) f m₀ m) (sym (add-zero i)) h
+filled-several {n} {f} {m₀} {m} {i} (v ∷ vs) h le room e =
+    let next : i + 1 ≡ suc i = omega arith in
+    let first : v ≡ f i = e 0 (omega arith) ∙ ap f (add-zero i) in
+    let more : Placed n (λ k. k) f m₀ (set m i v) (suc i) = subst (Placed n (λ k. k) f m₀ (set m i v)) next (filled-more v h (omega arith) room first) in
+    subst (Placed n (λ k. k) f m₀ (sets (set m i v) (suc i) vs)) (omega arith)
+    (filled-several vs more (omega arith) room (λ k hk. e (suc k) (omega arith) ∙ ap f (omega arith)))
+
 -- stores by a permutation
 
 pub scattered-more : {π : List ℕ} {f : ℕ → ℕ} {m₀ m : List ℕ} {i : ℕ} (v : ℕ) → Permutation π → Placed 16 (at π) f m₀ m i → i < 16

@@ -80,15 +80,6 @@ fn expand(m: &mut [u32], steps: usize)
     }
 }
 
-// The sub-messages of the block s up to M_steps.
-fn expand_block(m: &mut [u32], steps: usize, s: &[u8])
-    requires { ⌜ (length (now m) ≡ expandedWords lsh256) × (1 ≤ steps) × (steps ≤ lsh256 .steps) × (length (now s) ≡ blockBytes lsh256) ⌝ }
-    ensures { λ _. ⌜ Expanded lsh256 (wordsOf lsh256 32 (now (s .entry))) (now (m .exit)) steps ⌝ }
-{
-    load_block(m, s);
-    expand(m, steps);
-}
-
 // The steps j and j + 1: with an even j the amounts of both are constants to the compiler.
 fn two_steps(sc: &[u32; Lsh256::CONSTANTS], m: &[u32], j: usize, t: [u32; 16]) -> [u32; 16]
     requires { ⌜ (now sc ≡ constants lsh256) × (length (now m) ≡ expandedWords lsh256) × (j + 1 < lsh256 .steps) ⌝ }
@@ -178,7 +169,8 @@ fn last_unstep(sc: &[u32; Lsh256::CONSTANTS], m: &[u32], steps: usize, t: [u32; 
     steps256::unstep(sc, steps - 1, sub_message(m, steps - 1), r)
 }
 
-// The block s on the chain t, with this number of steps. m is room for the sub-messages.
+// The block s on the chain t, with this number of steps. m is room for the sub-messages. Both directions load and expand it themselves: with
+// one function for the two, as lsh512 has it, long runs are slower here.
 fn forward_block(
     sc: &[u32; Lsh256::CONSTANTS],
     m: &mut [u32],
@@ -189,7 +181,8 @@ fn forward_block(
     requires { ⌜ (now sc ≡ constants lsh256) × (length (now m) ≡ expandedWords lsh256) × (1 ≤ steps) × (steps ≤ lsh256 .steps) × (length (now s) ≡ blockBytes lsh256) ⌝ }
     ensures { λ r. ⌜ r ≡ forwardSteps lsh256 steps (wordsOf lsh256 32 (now (s .entry))) t ⌝ }
 {
-    expand_block(m, steps, s);
+    load_block(m, s);
+    expand(m, steps);
     if steps == Lsh256::STEPS {
         return all_steps(sc, m, t);
     }
@@ -206,7 +199,8 @@ fn backward_block(
     requires { ⌜ (now sc ≡ constants lsh256) × (length (now m) ≡ expandedWords lsh256) × (1 ≤ steps) × (steps ≤ lsh256 .steps) × (length (now s) ≡ blockBytes lsh256) ⌝ }
     ensures { λ r. ⌜ r ≡ backwardSteps lsh256 steps (wordsOf lsh256 32 (now (s .entry))) t ⌝ }
 {
-    expand_block(m, steps, s);
+    load_block(m, s);
+    expand(m, steps);
     if steps == Lsh256::STEPS {
         return all_unsteps(sc, m, t);
     }

@@ -3,12 +3,15 @@
 // the two halves of a product with a power of two.
 ghost use mathlib.Core.Path.{_≡_};
 ghost use Prim.Native.Nat.{ℕ, _+_, _-_, _*_, _^_, _<_, _≤_};
+ghost use lib.ListN.{length};
 ghost use Rattle.lsh.specs.Word.{add, subtract, rotateLeft, rotateRight, xor};
+ghost use lib.ListN.{length};
 ghost use Rattle.lsh.specs.WordSize.{lsh256, gamma};
 ghost use Rattle.lsh.specs.StepConstants.{constants};
 ghost use Rattle.lsh.specs.Step.{mix, unmix};
 ghost use Rattle.groups.specs.Group.{group, eachWord, wordwise};
 ghost use Rattle.groups.specs.GroupStep.{pair, groups, inWords, mixPair, unmixPair};
+ghost use Rattle.loops.specs.Fours.{four};
 ghost use Rattle.mix256.specs.Amounts.{shifts, remaining, powers};
 use constants256::Lsh256;
 
@@ -94,6 +97,18 @@ pub fn next_shifts(k: [u32; 4]) -> [u32; 4]
     [word32::subtract(34, k[0]), word32::subtract(30, k[1]), word32::subtract(18, k[2]), word32::subtract(46, k[3])]
 }
 
+// Four words from place a on.
+fn four(m: &[u32], a: usize) -> [u32; 4]
+    requires { ⌜ a + 4 ≤ length (now m) ⌝ }
+    ensures { λ r. ⌜ r ≡ four (now (m .entry)) a ⌝ }
+{
+    let mut r = [0u32; 4];
+    for i in 0..4 {
+        r[i] = m[a + i];
+    }
+    r
+}
+
 fn xor(a: [u32; 4], b: [u32; 4]) -> [u32; 4]
     ensures { λ r. ⌜ r ≡ wordwise (xor 32) a b ⌝ }
 {
@@ -168,7 +183,7 @@ fn mix_pair(
     requires { ⌜ (now sc ≡ constants lsh256) × (now pw ≡ powers (gamma lsh256)) × (k ≡ shifts lsh256 j) × (j < lsh256 .steps) × (l < 2) ⌝ }
     ensures { λ r. ⌜ pair (r .x) (r .y) ≡ mixPair lsh256 j l (pair x y) ⌝ }
 {
-    let c = constants256::four(sc, j * 8 + l * 4);
+    let c = four(sc, j * 8 + l * 4);
     let x1 = xor(turn_each(add(x, y), k[0], k[1]), c);
     let y1 = turn_each(add(y, x1), k[2], k[3]);
     Pair {
@@ -189,7 +204,7 @@ fn unmix_pair(
     requires { ⌜ (now sc ≡ constants lsh256) × (now pw ≡ powers (remaining lsh256)) × (k ≡ shifts lsh256 j) × (j < lsh256 .steps) × (l < 2) ⌝ }
     ensures { λ r. ⌜ pair (r .x) (r .y) ≡ unmixPair lsh256 j l (pair x y) ⌝ }
 {
-    let c = constants256::four(sc, j * 8 + l * 4);
+    let c = four(sc, j * 8 + l * 4);
     let y1 = turn_by_powers(pw, j, l, y);
     let x1 = subtract(x, y1);
     let y0 = subtract(turn_each(y1, k[3], k[2]), x1);
@@ -211,8 +226,8 @@ pub fn mix(sc: &[u32; Lsh256::CONSTANTS], pw: &[u64; 16], k: [u32; 4], j: usize,
     requires { ⌜ (now sc ≡ constants lsh256) × (now pw ≡ powers (gamma lsh256)) × (k ≡ shifts lsh256 j) × (j < lsh256 .steps) ⌝ }
     ensures { λ r. ⌜ r ≡ mix lsh256 j t ⌝ }
 {
-    let p = mix_pair(sc, pw, k, j, 0, constants256::four(&t, 0), constants256::four(&t, 8));
-    let q = mix_pair(sc, pw, k, j, 1, constants256::four(&t, 4), constants256::four(&t, 12));
+    let p = mix_pair(sc, pw, k, j, 0, four(&t, 0), four(&t, 8));
+    let q = mix_pair(sc, pw, k, j, 1, four(&t, 4), four(&t, 12));
     let x0 = p.x;
     let x1 = q.x;
     let y0 = p.y;
@@ -224,8 +239,8 @@ pub fn unmix(sc: &[u32; Lsh256::CONSTANTS], pw: &[u64; 16], k: [u32; 4], j: usiz
     requires { ⌜ (now sc ≡ constants lsh256) × (now pw ≡ powers (remaining lsh256)) × (k ≡ shifts lsh256 j) × (j < lsh256 .steps) ⌝ }
     ensures { λ r. ⌜ r ≡ unmix lsh256 j t ⌝ }
 {
-    let p = unmix_pair(sc, pw, k, j, 0, constants256::four(&t, 0), constants256::four(&t, 8));
-    let q = unmix_pair(sc, pw, k, j, 1, constants256::four(&t, 4), constants256::four(&t, 12));
+    let p = unmix_pair(sc, pw, k, j, 0, four(&t, 0), four(&t, 8));
+    let q = unmix_pair(sc, pw, k, j, 1, four(&t, 4), four(&t, 12));
     let x0 = p.x;
     let x1 = q.x;
     let y0 = p.y;

@@ -4,14 +4,14 @@ ghost use Prim.Native.Nat.{_<_};
 ghost use Rattle.lsh.specs.Tabulate.{at};
 ghost use Rattle.lsh.specs.WordSize.{sizeOf};
 ghost use Rattle.lsh.specs.Opening.{opening};
-ghost use Rattle.published.specs.Published.{publishedSizes, publishedLengths, openings};
+ghost use Rattle.published.specs.Published.{publishedSizes, publishedLengths};
 
 // Of each its word size, its digest length and the 16 words of its opening chain.
 const SIZES: [u64; 6] = [32, 32, 64, 64, 64, 64];
 
 const LENGTHS: [u64; 6] = [224, 256, 224, 256, 384, 512];
 
-const CHAINS: [u64; 96] = [
+const LSH_256_224: [u64; 16] = [
     0x068608d3,
     0x62d8f7a7,
     0xd76652ab,
@@ -28,6 +28,9 @@ const CHAINS: [u64; 96] = [
     0xee0d1727,
     0x33636595,
     0x8bb8d05f,
+];
+
+const LSH_256_256: [u64; 16] = [
     0x46a10f1f,
     0xfddce486,
     0xb41443a8,
@@ -44,6 +47,9 @@ const CHAINS: [u64; 96] = [
     0x138668c8,
     0x47aa4484,
     0xe01afb41,
+];
+
+const LSH_512_224: [u64; 16] = [
     0x0c401e9fe8813a55,
     0x4a5f446268fd3d35,
     0xff13e452334f612a,
@@ -60,6 +66,9 @@ const CHAINS: [u64; 96] = [
     0xd522c4deed8e4d83,
     0xa79f5509b43fbafe,
     0xe00d2cd88b4b6c6a,
+];
+
+const LSH_512_256: [u64; 16] = [
     0x6dc57c33df989423,
     0xd8ea7f6e8342c199,
     0x76df8356f8603ac4,
@@ -76,6 +85,9 @@ const CHAINS: [u64; 96] = [
     0xfcca39b089ef4615,
     0xecff4017d020b4b6,
     0x7e77384c772ed802,
+];
+
+const LSH_512_384: [u64; 16] = [
     0x53156a66292808f6,
     0xb2c4f362b204c2bc,
     0xb84b7213bfa05c4e,
@@ -92,6 +104,9 @@ const CHAINS: [u64; 96] = [
     0xa0dec48d54618ead,
     0x150317267464bc57,
     0x32d1501fde63dc93,
+];
+
+const LSH_512_512: [u64; 16] = [
     0xadd50f3c7f07094e,
     0xe3f3cee8f9418a4f,
     0xb527ecde5b3d0ae9,
@@ -126,22 +141,17 @@ pub fn place(w: u64, n: u64) -> usize
     6
 }
 
-// The opening chain of the one at place k.
+// The opening chain of the one at place k. Each is a constant of its own, since a constant is written out as a whole where it is named.
 pub fn opening(k: usize) -> [u64; 16]
     requires { ⌜ k < 6 ⌝ }
     ensures { λ r. ⌜ r ≡ opening (sizeOf (at publishedSizes k)) (at publishedLengths k) ⌝ }
 {
-    let chains = openings();
-    let mut r = [0u64; 16];
-    for l in 0..16 {
-        let place = 16 * k + l;
-        r[l] = chains[place];
+    match k {
+        0 => LSH_256_224,
+        1 => LSH_256_256,
+        2 => LSH_512_224,
+        3 => LSH_512_256,
+        4 => LSH_512_384,
+        _ => LSH_512_512,
     }
-    r
-}
-
-fn openings() -> [u64; 96]
-    ensures { λ r. ⌜ r ≡ openings publishedSizes publishedLengths ⌝ }
-{
-    CHAINS
 }

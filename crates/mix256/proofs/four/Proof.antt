@@ -1,12 +1,12 @@
--- `constants512::four` meets its contract. Assumes nothing.
+-- `mix256::four` meets its contract. Assumes nothing.
 use mathlib.Core.Path.{refl}
 use Prim.Native.Nat.{_+_, _-_}
 use native.Mathlib.Omega.{arith}
 use Rattle.lsh.specs.Tabulate.{at}
-use Rattle.loops.specs.Constants.{four}
+use Rattle.loops.specs.Fours.{four}
 use Rattle.loops.proofs.Places.{Placed, placed-none, filled-more, filled-all}
-use Rattle.constants512.proofs.four.Statement.{statement}
-use Rattle.constants512.proofs.four.Tie as tie
+use Rattle.mix256.proofs.four.Statement.{statement}
+use Rattle.mix256.proofs.four.Tie as tie
 
 abbrev Inv-loop : tie.InvT-loop
 Inv-loop m a r₀ i₀ r i = Placed 4 (λ k. k) (λ k. at m (a + k)) r₀ r i
