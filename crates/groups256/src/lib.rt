@@ -1,31 +1,34 @@
-// LSH-256 in groups of four words: whole blocks of 128 bytes run forward and backward on a chain of 16 words of 32 bits, with the contracts of lsh256.
+// LSH-256 in groups of four words: whole blocks of 128 bytes run forward and backward on a chain of 16 words of 32 bits, with the contracts of lsh256. The mix is that of
+// mix256; all else works on a chain as it is in memory, four words at a time too, and is that of the first engine. Group l of a chain stands at places 4l to 4l + 3.
 ghost use mathlib.Core.Path.{_≡_};
 ghost use Prim.Native.Nat.{_+_, _*_, _/_, _<_, _≤_};
 ghost use lib.ListN.{length};
+ghost use lib.Seq.{sets};
 ghost use Rattle.lsh.specs.WordSize.{lsh256, blockBytes, gamma};
 ghost use Rattle.lsh.specs.StepConstants.{constants};
 ghost use Rattle.lsh.specs.Bytes.{wordsOf};
 ghost use Rattle.lsh.specs.Step.{step, unstep};
+ghost use Rattle.lsh.specs.Expansion.{nextSubMessage};
 ghost use Rattle.lsh.specs.Block.{forwardSteps, backwardSteps, forwardsSteps, backwardsSteps};
 ghost use Rattle.lsh.specs.Padding.{blocksOf};
-ghost use Rattle.loops.specs.Rows.{expandedWords, row, Expanded};
+ghost use Rattle.loops.specs.Rows.{expandedWords, row};
 ghost use Rattle.mix256.specs.Amounts.{shifts, remaining, powers};
 use lsh256::Lsh256;
 use lsh256::Run;
 
-// Step j, whose shifts are k, with its sub-message m (6).
+// Step j, whose shifts are k, with its sub-message in m (6).
 fn step(
     sc: &[u32; Lsh256::CONSTANTS],
     pw: &[u64; 16],
     k: [u32; 4],
     j: usize,
-    m: [u32; 16],
+    m: &[u32],
     t: [u32; 16],
 ) -> [u32; 16]
-    requires { ⌜ (now sc ≡ constants lsh256) × (now pw ≡ powers (gamma lsh256)) × (k ≡ shifts lsh256 j) × (j < lsh256 .steps) ⌝ }
-    ensures { λ r. ⌜ r ≡ step lsh256 j m t ⌝ }
+    requires { ⌜ (now sc ≡ constants lsh256) × (now pw ≡ powers (gamma lsh256)) × (k ≡ shifts lsh256 j) × (j < lsh256 .steps) × (j * 16 + 16 ≤ length (now m)) ⌝ }
+    ensures { λ r. ⌜ r ≡ step lsh256 j (row (now (m .entry)) j) t ⌝ }
 {
-    steps256::permute(mix256::mix(sc, pw, k, j, steps256::add_message(t, m)))
+    steps256::permute(mix256::mix(sc, pw, k, j, steps256::add_message(t, lsh256::sub_message(m, j))))
 }
 
 fn unstep(
@@ -33,48 +36,85 @@ fn unstep(
     pw: &[u64; 16],
     k: [u32; 4],
     j: usize,
-    m: [u32; 16],
+    m: &[u32],
     t: [u32; 16],
 ) -> [u32; 16]
-    requires { ⌜ (now sc ≡ constants lsh256) × (now pw ≡ powers (remaining lsh256)) × (k ≡ shifts lsh256 j) × (j < lsh256 .steps) ⌝ }
-    ensures { λ r. ⌜ r ≡ unstep lsh256 j m t ⌝ }
+    requires { ⌜ (now sc ≡ constants lsh256) × (now pw ≡ powers (remaining lsh256)) × (k ≡ shifts lsh256 j) × (j < lsh256 .steps) × (j * 16 + 16 ≤ length (now m)) ⌝ }
+    ensures { λ r. ⌜ r ≡ unstep lsh256 j (row (now (m .entry)) j) t ⌝ }
 {
-    steps256::add_message(mix256::unmix(sc, pw, k, j, steps256::unpermute(t)), m)
+    steps256::add_message(mix256::unmix(sc, pw, k, j, steps256::unpermute(t)), lsh256::sub_message(m, j))
 }
 
 // M_(j + 2), from the two before it (8).
-fn expand_row(m: &mut [u32], j: usize) {
+fn expand_row(m: &mut [u32], j: usize)
+    requires { ⌜ (j + 3) * 16 ≤ length (now m) ⌝ }
+    ensures { λ _. ⌜ now (m .exit) ≡ sets (now (m .entry)) ((j + 2) * 16) (nextSubMessage lsh256 (row (now (m .entry)) (j + 1)) (row (now (m .entry)) j)) ⌝ }
+{
     let r = lsh256::next_sub_message(lsh256::sub_message(m, j + 1), lsh256::sub_message(m, j));
     lsh256::put_sub_message(m, j + 2, r);
 }
 
-// The block s on the chain t, with this number of steps. m is room for the sub-messages. Each is worked out two steps before it is wanted: so the processor does it beside
-// the step.
-fn forward_block(sc: &[u32; Lsh256::CONSTANTS], pw: &[u64; 16], m: &mut [u32], steps: usize, s: &[u8], t: [u32; 16]) -> [u32; 16] {
+// Room for the sub-messages of a block, and for one more: each is worked out two steps before it is wanted, so that the processor does it beside a step, and none of them by
+// a condition, which the compiler would not do on four words at once.
+fn long_room() -> [u32; Lsh256::EXPANDED + 16] {
+    [0u32; Lsh256::EXPANDED + 16]
+}
+
+// The block s on the chain t, with this number of steps.
+fn forward_block(
+    sc: &[u32; Lsh256::CONSTANTS],
+    pw: &[u64; 16],
+    m: &mut [u32],
+    steps: usize,
+    s: &[u8],
+    t: [u32; 16],
+) -> [u32; 16]
+    requires { ⌜ (now sc ≡ constants lsh256) × (now pw ≡ powers (gamma lsh256)) × (length (now m) ≡ expandedWords lsh256 + 16) × (steps ≤ lsh256 .steps) × (length (now s) ≡ blockBytes lsh256) ⌝ }
+    ensures { λ r. ⌜ r ≡ forwardSteps lsh256 steps (wordsOf lsh256 32 (now (s .entry))) t ⌝ }
+{
     lsh256::load_block(m, s);
     let mut r = t;
     let mut k = mix256::shifts(0);
-    let last = steps - 1;
-    for j in 0..last {
+    for j in 0..steps {
         expand_row(m, j);
-        let u = step(sc, pw, k, j, lsh256::sub_message(m, j), r);
+        let u = step(sc, pw, k, j, m, r);
         r = u;
         let n = mix256::next_shifts(k);
         k = n;
     }
-    let u = step(sc, pw, k, last, lsh256::sub_message(m, last), r);
-    steps256::add_message(u, lsh256::sub_message(m, steps))
+    steps256::add_message(r, lsh256::sub_message(m, steps))
 }
 
-fn backward_block(sc: &[u32; Lsh256::CONSTANTS], pw: &[u64; 16], m: &mut [u32], steps: usize, s: &[u8], t: [u32; 16]) -> [u32; 16] {
+fn backward_block(
+    sc: &[u32; Lsh256::CONSTANTS],
+    pw: &[u64; 16],
+    m: &mut [u32],
+    steps: usize,
+    s: &[u8],
+    t: [u32; 16],
+) -> [u32; 16]
+    requires { ⌜ (now sc ≡ constants lsh256) × (now pw ≡ powers (remaining lsh256)) × (length (now m) ≡ expandedWords lsh256) × (1 ≤ steps) × (steps ≤ lsh256 .steps) × (length (now s) ≡ blockBytes lsh256) ⌝ }
+    ensures { λ r. ⌜ r ≡ backwardSteps lsh256 steps (wordsOf lsh256 32 (now (s .entry))) t ⌝ }
+{
     lsh256::load_block(m, s);
     lsh256::expand(m, steps);
-    let mut r = steps256::add_message(t, lsh256::sub_message(m, steps));
+    all_unsteps(sc, pw, m, steps, steps256::add_message(t, lsh256::sub_message(m, steps)))
+}
+
+// The steps taken back, from the last. What stands after two steps holds again after none, so the first shifts are those of step steps + 1.
+fn all_unsteps(
+    sc: &[u32; Lsh256::CONSTANTS],
+    pw: &[u64; 16],
+    m: &[u32],
+    steps: usize,
+    t: [u32; 16],
+) -> [u32; 16] {
+    let mut r = t;
     let mut k = mix256::shifts(steps + 1);
     let mut j = steps;
     while 0 < j {
         j -= 1;
-        let u = unstep(sc, pw, k, j, lsh256::sub_message(m, j), r);
+        let u = unstep(sc, pw, k, j, m, r);
         r = u;
         let n = mix256::next_shifts(k);
         k = n;
@@ -82,10 +122,14 @@ fn backward_block(sc: &[u32; Lsh256::CONSTANTS], pw: &[u64; 16], m: &mut [u32], 
     r
 }
 
-pub fn forward(steps: usize, t: [u32; 16], s: &[u8]) -> Run {
+// Runs the whole blocks of s forward, in order, on the chain t, with this number of steps each.
+pub fn forward(steps: usize, t: [u32; 16], s: &[u8]) -> Run
+    requires { ⌜ (1 ≤ steps) × (steps ≤ lsh256 .steps) ⌝ }
+    ensures { λ r. ⌜ (r .chain ≡ forwardsSteps lsh256 steps (blocksOf lsh256 (now (s .entry))) t) × (r .count ≡ length (now (s .entry)) / blockBytes lsh256) ⌝ }
+{
     let sc = constants256::step_constants();
     let pw = mix256::powers();
-    let mut m = lsh256::room();
+    let mut m = long_room();
     let n = s.len() / Lsh256::BLOCK;
     let mut c = t;
     let mut count = 0;
@@ -102,7 +146,11 @@ pub fn forward(steps: usize, t: [u32; 16], s: &[u8]) -> Run {
     }
 }
 
-pub fn backward(steps: usize, t: [u32; 16], s: &[u8]) -> Run {
+// Runs the whole blocks of s backward, from the last, on the chain t.
+pub fn backward(steps: usize, t: [u32; 16], s: &[u8]) -> Run
+    requires { ⌜ (1 ≤ steps) × (steps ≤ lsh256 .steps) ⌝ }
+    ensures { λ r. ⌜ (r .chain ≡ backwardsSteps lsh256 steps (blocksOf lsh256 (now (s .entry))) t) × (r .count ≡ length (now (s .entry)) / blockBytes lsh256) ⌝ }
+{
     let sc = constants256::step_constants();
     let pw = mix256::back_powers();
     let mut m = lsh256::room();

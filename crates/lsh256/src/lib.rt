@@ -23,8 +23,8 @@ pub struct Run {
 const TAU: [usize; 16] = [3, 2, 0, 1, 7, 4, 5, 6, 11, 10, 8, 9, 15, 12, 13, 14];
 
 // M_0 and M_1 (7): the words of a block.
-fn load_block(m: &mut [u32], s: &[u8])
-    requires { ⌜ (length (now m) ≡ expandedWords lsh256) × (length (now s) ≡ blockBytes lsh256) ⌝ }
+pub fn load_block(m: &mut [u32], s: &[u8])
+    requires { ⌜ (32 ≤ length (now m)) × (length (now s) ≡ blockBytes lsh256) ⌝ }
     ensures { λ _. ⌜ now (m .exit) ≡ sets (now (m .entry)) 0 (wordsOf lsh256 32 (now (s .entry))) ⌝ }
 {
     for l in 0..32 {
@@ -33,8 +33,8 @@ fn load_block(m: &mut [u32], s: &[u8])
 }
 
 // M_j
-fn sub_message(m: &[u32], j: usize) -> [u32; 16]
-    requires { ⌜ (length (now m) ≡ expandedWords lsh256) × (j ≤ lsh256 .steps) ⌝ }
+pub fn sub_message(m: &[u32], j: usize) -> [u32; 16]
+    requires { ⌜ j * 16 + 16 ≤ length (now m) ⌝ }
     ensures { λ r. ⌜ r ≡ row (now (m .entry)) j ⌝ }
 {
     let a = j * 16;
@@ -45,8 +45,8 @@ fn sub_message(m: &[u32], j: usize) -> [u32; 16]
     r
 }
 
-fn put_sub_message(m: &mut [u32], j: usize, r: [u32; 16])
-    requires { ⌜ (length (now m) ≡ expandedWords lsh256) × (j ≤ lsh256 .steps) ⌝ }
+pub fn put_sub_message(m: &mut [u32], j: usize, r: [u32; 16])
+    requires { ⌜ j * 16 + 16 ≤ length (now m) ⌝ }
     ensures { λ _. ⌜ now (m .exit) ≡ sets (now (m .entry)) (j * 16) r ⌝ }
 {
     let a = j * 16;
@@ -56,7 +56,7 @@ fn put_sub_message(m: &mut [u32], j: usize, r: [u32; 16])
 }
 
 // A sub-message from the two before it, p and q (8).
-fn next_sub_message(p: [u32; 16], q: [u32; 16]) -> [u32; 16]
+pub fn next_sub_message(p: [u32; 16], q: [u32; 16]) -> [u32; 16]
     ensures { λ r. ⌜ r ≡ nextSubMessage lsh256 p q ⌝ }
 {
     let tau = TAU;
@@ -68,7 +68,7 @@ fn next_sub_message(p: [u32; 16], q: [u32; 16]) -> [u32; 16]
 }
 
 // M_2 to M_steps, from M_0 and M_1. The row before is at hand, and the one before that is read again: so the compiler works on four words at once.
-fn expand(m: &mut [u32], steps: usize)
+pub fn expand(m: &mut [u32], steps: usize)
     requires { ⌜ (length (now m) ≡ expandedWords lsh256) × (1 ≤ steps) × (steps ≤ lsh256 .steps) ⌝ }
     ensures { λ _. ⌜ Expanded lsh256 (take 32 (now (m .entry))) (now (m .exit)) steps ⌝ }
 {
@@ -208,7 +208,7 @@ fn backward_block(
 }
 
 // Room for the sub-messages of a block.
-fn room() -> [u32; Lsh256::EXPANDED] {
+pub fn room() -> [u32; Lsh256::EXPANDED] {
     [0u32; Lsh256::EXPANDED]
 }
 

@@ -101,7 +101,7 @@ fn unmix(sc: &[u32; Lsh256::CONSTANTS], j: usize, t: [u32; 16]) -> [u32; 16]
 }
 
 // (15)
-fn permute(t: [u32; 16]) -> [u32; 16]
+pub fn permute(t: [u32; 16]) -> [u32; 16]
     ensures { λ r. ⌜ r ≡ permute t ⌝ }
 {
     let sigma = SIGMA;
@@ -112,7 +112,7 @@ fn permute(t: [u32; 16]) -> [u32; 16]
     r
 }
 
-fn unpermute(t: [u32; 16]) -> [u32; 16]
+pub fn unpermute(t: [u32; 16]) -> [u32; 16]
     ensures { λ r. ⌜ r ≡ unpermute t ⌝ }
 {
     let sigma = SIGMA;

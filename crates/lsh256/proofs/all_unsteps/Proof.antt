@@ -4,6 +4,7 @@ use Prim.Native.Nat.{ℕ, _*_, _≤_}
 use native.Mathlib.Omega.{arith}
 use borrow.Author.Needs.{needs}
 use Rattle.lsh.specs.WordSize.{lsh256}
+use Rattle.loops.specs.Rows.{expandedWords}
 use Rattle.loops.specs.Turns.{RunBack}
 use Rattle.loops.proofs.Turns.{unstepped-none, unstepped-is, unstepped-two}
 use Rattle.lsh256.proofs.all_unsteps.Statement.{statement}
@@ -16,7 +17,7 @@ abbrev μ-loop : tie.MeasureT-loop
 μ-loop sc m r₀ k₀ r k = k
 
 pub all-unsteps-spec : {M : Type 1} → statement M
-unfolding lsh256
+unfolding lsh256 expandedWords
 all-unsteps-spec =
     tie.close
     (tie.spec

@@ -40,13 +40,13 @@ expand-spec =
     (tie.spec
     Inv-loop
     μ-loop
-    (λ c κs. (c .before .before .pre .0, omega arith))
+    (λ c κs. omega arith)
     (λ c. omega arith)
     holds
-    (λ c κs. (c .before .before .loop .inv .0 .len, omega arith))
+    (λ c κs. omega (arith, c .before .before .loop .inv .0 .len))
     (λ c κs. search needs)
     (λ c. omega arith)
-    (λ c κs. (c .before .before .before .before .before .loop .inv .0 .len, omega arith))
+    (λ c κs. omega (arith, c .before .before .before .before .before .loop .inv .0 .len))
     (λ c. omega arith)
     (λ c. omega arith)
     again

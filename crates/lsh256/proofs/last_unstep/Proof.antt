@@ -2,12 +2,13 @@
 use native.Mathlib.Omega.{arith}
 use borrow.Author.Needs.{needs}
 use Rattle.lsh.specs.WordSize.{lsh256}
+use Rattle.loops.specs.Rows.{expandedWords}
 use Rattle.loops.proofs.Turns.{unstepped-none, unstepped-is, unstepped-one}
 use Rattle.lsh256.proofs.last_unstep.Statement.{statement}
 use Rattle.lsh256.proofs.last_unstep.Tie as tie
 
 pub last-unstep-spec : {M : Type 1} → statement M
-unfolding lsh256
+unfolding lsh256 expandedWords
 last-unstep-spec =
     tie.close
     (tie.spec

@@ -1,23 +1,21 @@
 -- `lsh256::load_block` meets its contract. Assumes nothing.
-use mathlib.Core.Path.{_≡_}
-use Prim.Native.Nat.{_-_, _*_}
+use Prim.Native.Nat.{_-_, _*_, _≤_}
 use native.Mathlib.Omega.{arith}
 use lib.ListN.{length}
 use Rattle.lsh.specs.WordSize.{lsh256, wordBytes, blockBytes}
 use Rattle.lsh.specs.Bytes.{wordAt, wordsOf}
-use Rattle.loops.specs.Rows.{expandedWords}
 use Rattle.loops.proofs.Places.{Placed, placed-none, filled-more, stored-front}
 use Rattle.lsh256.proofs.load_block.Statement.{statement}
 use Rattle.lsh256.proofs.load_block.Tie as tie
 
 abbrev Inv-loop : tie.InvT-loop
-Inv-loop m₀ s l₀ m l = Placed 32 (λ k. k) (λ k. wordAt 4 s (k * 4)) m₀ m l × (length m₀ ≡ expandedWords lsh256)
+Inv-loop m₀ s l₀ m l = Placed 32 (λ k. k) (λ k. wordAt 4 s (k * 4)) m₀ m l × (32 ≤ length m₀)
 
 abbrev μ-loop : tie.MeasureT-loop
 μ-loop m₀ s l₀ m l = 32 - l
 
 pub load-block-spec : {M : Type 1} → statement M
-unfolding wordsOf wordBytes blockBytes lsh256 expandedWords
+unfolding wordsOf wordBytes blockBytes lsh256
 load-block-spec =
     tie.close
     (tie.spec

@@ -1,11 +1,12 @@
 -- `lsh256::two_steps` meets its contract. Assumes nothing.
 use borrow.Author.Needs.{needs}
 use Rattle.lsh.specs.WordSize.{lsh256}
+use Rattle.loops.specs.Rows.{expandedWords}
 use Rattle.lsh256.proofs.two_steps.Statement.{statement}
 use Rattle.lsh256.proofs.two_steps.Tie as tie
 
 pub two-steps-spec : {M : Type 1} → statement M
-unfolding lsh256
+unfolding lsh256 expandedWords
 two-steps-spec =
     tie.close
     (tie.spec

@@ -1,11 +1,12 @@
 -- `lsh256::two_unsteps` meets its contract. Assumes nothing.
 use borrow.Author.Needs.{needs}
 use Rattle.lsh.specs.WordSize.{lsh256}
+use Rattle.loops.specs.Rows.{expandedWords}
 use Rattle.lsh256.proofs.two_unsteps.Statement.{statement}
 use Rattle.lsh256.proofs.two_unsteps.Tie as tie
 
 pub two-unsteps-spec : {M : Type 1} → statement M
-unfolding lsh256
+unfolding lsh256 expandedWords
 two-unsteps-spec =
     tie.close
     (tie.spec
