@@ -1,8 +1,9 @@
 // LSH-256 in groups of four words: whole blocks of 128 bytes run forward and backward on a chain of 16 words of 32 bits, with the contracts of lsh256. The mix is that of
 // mix256; all else works on a chain as it is in memory, four words at a time too, and is that of the first engine. Group l of a chain stands at places 4l to 4l + 3.
 ghost use mathlib.Core.Path.{_≡_};
-ghost use Prim.Native.Nat.{_+_, _*_, _/_, _<_, _≤_};
-ghost use lib.ListN.{length};
+ghost use mathlib.Core.List.{List};
+ghost use Prim.Native.Nat.{ℕ, _+_, _*_, _/_, _<_, _≤_};
+ghost use lib.ListN.{length, take};
 ghost use lib.Seq.{sets};
 ghost use Rattle.lsh.specs.WordSize.{lsh256, blockBytes, gamma};
 ghost use Rattle.lsh.specs.StepConstants.{constants};
@@ -12,6 +13,7 @@ ghost use Rattle.lsh.specs.Expansion.{nextSubMessage};
 ghost use Rattle.lsh.specs.Block.{forwardSteps, backwardSteps, forwardsSteps, backwardsSteps};
 ghost use Rattle.lsh.specs.Padding.{blocksOf};
 ghost use Rattle.loops.specs.Rows.{expandedWords, row};
+ghost use Rattle.loops.specs.Turns.{RunBack};
 ghost use Rattle.mix256.specs.Amounts.{shifts, remaining, powers};
 use lsh256::Lsh256;
 use lsh256::Run;
@@ -28,7 +30,13 @@ fn step(
     requires { ⌜ (now sc ≡ constants lsh256) × (now pw ≡ powers (gamma lsh256)) × (k ≡ shifts lsh256 j) × (j < lsh256 .steps) × (j * 16 + 16 ≤ length (now m)) ⌝ }
     ensures { λ r. ⌜ r ≡ step lsh256 j (row (now (m .entry)) j) t ⌝ }
 {
-    steps256::permute(mix256::mix(sc, pw, k, j, steps256::add_message(t, lsh256::sub_message(m, j))))
+    steps256::permute(mix256::mix(
+        sc,
+        pw,
+        k,
+        j,
+        steps256::add_message(t, lsh256::sub_message(m, j)),
+    ))
 }
 
 fn unstep(
@@ -42,7 +50,10 @@ fn unstep(
     requires { ⌜ (now sc ≡ constants lsh256) × (now pw ≡ powers (remaining lsh256)) × (k ≡ shifts lsh256 j) × (j < lsh256 .steps) × (j * 16 + 16 ≤ length (now m)) ⌝ }
     ensures { λ r. ⌜ r ≡ unstep lsh256 j (row (now (m .entry)) j) t ⌝ }
 {
-    steps256::add_message(mix256::unmix(sc, pw, k, j, steps256::unpermute(t)), lsh256::sub_message(m, j))
+    steps256::add_message(
+        mix256::unmix(sc, pw, k, j, steps256::unpermute(t)),
+        lsh256::sub_message(m, j),
+    )
 }
 
 // M_(j + 2), from the two before it (8).
@@ -60,7 +71,55 @@ fn long_room() -> [u32; Lsh256::EXPANDED + 16] {
     [0u32; Lsh256::EXPANDED + 16]
 }
 
-// The block s on the chain t, with this number of steps.
+// The steps on the chain t, and then M_steps, for the block whose words stand first in m.
+fn all_steps(
+    sc: &[u32; Lsh256::CONSTANTS],
+    pw: &[u64; 16],
+    m: &mut [u32],
+    steps: usize,
+    t: [u32; 16],
+) -> [u32; 16]
+    requires { ⌜ (now sc ≡ constants lsh256) × (now pw ≡ powers (gamma lsh256)) × (length (now m) ≡ expandedWords lsh256 + 16) × (steps ≤ lsh256 .steps) ⌝ }
+    ensures { λ r. ⌜ r ≡ forwardSteps lsh256 steps (take 32 (now (m .entry))) t ⌝ }
+{
+    let mut r = t;
+    let mut k = mix256::shifts(0);
+    for j in 0..steps {
+        expand_row(m, j);
+        let u = step(sc, pw, k, j, m, r);
+        r = u;
+        let n = mix256::next_shifts(k);
+        k = n;
+    }
+    steps256::add_message(r, lsh256::sub_message(m, steps))
+}
+
+// The steps taken back from the last, on the chain t from which M_steps is taken already. The shifts come again after two steps, so those of the last step are those of step
+// steps + 1.
+fn all_unsteps(
+    sc: &[u32; Lsh256::CONSTANTS],
+    pw: &[u64; 16],
+    m: &[u32],
+    steps: usize,
+    t: [u32; 16],
+) -> [u32; 16]
+    requires { ⌜ (now sc ≡ constants lsh256) × (now pw ≡ powers (remaining lsh256)) × (length (now m) ≡ expandedWords lsh256) × (steps ≤ lsh256 .steps) ⌝ }
+    ensures { λ r. ⌜ ((u : List ℕ) → RunBack lsh256 (now (m .entry)) steps steps u t → RunBack lsh256 (now (m .entry)) steps 0 u r) ⌝ }
+{
+    let mut r = t;
+    let mut k = mix256::shifts(steps + 1);
+    let mut j = steps;
+    while 0 < j {
+        j -= 1;
+        let u = unstep(sc, pw, k, j, m, r);
+        r = u;
+        let n = mix256::next_shifts(k);
+        k = n;
+    }
+    r
+}
+
+// The block s on the chain t, with this number of steps. m is room for the sub-messages.
 fn forward_block(
     sc: &[u32; Lsh256::CONSTANTS],
     pw: &[u64; 16],
@@ -73,16 +132,7 @@ fn forward_block(
     ensures { λ r. ⌜ r ≡ forwardSteps lsh256 steps (wordsOf lsh256 32 (now (s .entry))) t ⌝ }
 {
     lsh256::load_block(m, s);
-    let mut r = t;
-    let mut k = mix256::shifts(0);
-    for j in 0..steps {
-        expand_row(m, j);
-        let u = step(sc, pw, k, j, m, r);
-        r = u;
-        let n = mix256::next_shifts(k);
-        k = n;
-    }
-    steps256::add_message(r, lsh256::sub_message(m, steps))
+    all_steps(sc, pw, m, steps, t)
 }
 
 fn backward_block(
@@ -98,28 +148,8 @@ fn backward_block(
 {
     lsh256::load_block(m, s);
     lsh256::expand(m, steps);
-    all_unsteps(sc, pw, m, steps, steps256::add_message(t, lsh256::sub_message(m, steps)))
-}
-
-// The steps taken back, from the last. What stands after two steps holds again after none, so the first shifts are those of step steps + 1.
-fn all_unsteps(
-    sc: &[u32; Lsh256::CONSTANTS],
-    pw: &[u64; 16],
-    m: &[u32],
-    steps: usize,
-    t: [u32; 16],
-) -> [u32; 16] {
-    let mut r = t;
-    let mut k = mix256::shifts(steps + 1);
-    let mut j = steps;
-    while 0 < j {
-        j -= 1;
-        let u = unstep(sc, pw, k, j, m, r);
-        r = u;
-        let n = mix256::next_shifts(k);
-        k = n;
-    }
-    r
+    let r = steps256::add_message(t, lsh256::sub_message(m, steps));
+    all_unsteps(sc, pw, m, steps, r)
 }
 
 // Runs the whole blocks of s forward, in order, on the chain t, with this number of steps each.

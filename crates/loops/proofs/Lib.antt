@@ -6,4 +6,5 @@ pub mod Lanes
 pub mod Groups
 pub mod Rows
 pub mod Turns
+pub mod Ahead
 pub mod Runs

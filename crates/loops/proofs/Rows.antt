@@ -25,12 +25,12 @@ sub-next z b {p} {q} {r} j er ep eq =
     er ∙ ap₂ (nextSubMessage z) (ep ∙ ap (subMessage z b) one) eq ∙ ap (subMessage z b) (sym two)
 
 -- M_0 and M_1 are the first 32 words (7)
-pub expanded-none : (z : WordSize) (m : List ℕ) → length m ≡ expandedWords z → 0 < z .steps → Expanded z (take 32 m) m 1
-unfolding expandedWords row subMessage subMessages
-expanded-none z m len pos = record { len = len; rows = go }
+pub rows-none : (z : WordSize) (m : List ℕ) → 32 ≤ length m → (i : ℕ) → i ≤ 1 → row m i ≡ subMessage z (take 32 m) i
+unfolding row subMessage subMessages
+rows-none z m room = go
   where
     long : length (take 32 m) ≡ 32
-    long = length-take-le 32 m (omega arith)
+    long = length-take-le 32 m room
 
     word : (k : ℕ) → k < 32 → at m k ≡ at (take 32 m) k
     word k hk = sym (getD-take 32 m k 0 hk)
@@ -42,6 +42,10 @@ expanded-none z m len pos = record { len = len; rows = go }
     go (suc zero) le =
         tabulate-ext 16 _ _ (length-drop 16 (take 32 m) ∙ rw long) (λ l hl. word (16 + l) (omega arith) ∙ sym (getD-drop 16 (take 32 m) l 0))
     go (suc (suc i)) le = absurd (omega arith)
+
+pub expanded-none : (z : WordSize) (m : List ℕ) → length m ≡ expandedWords z → 0 < z .steps → Expanded z (take 32 m) m 1
+unfolding expandedWords
+expanded-none z m len pos = record { len = len; rows = rows-none z m (omega arith) }
 
 -- the length of a sub-message that is worked out
 length-sub : (z : WordSize) (b : List ℕ) (j : ℕ) → length (subMessage z b (j + 1 + 1)) ≡ 16
@@ -85,7 +89,7 @@ pub expanded-upTo : {z : WordSize} {b m : List ℕ} {j s : ℕ} → Expanded z b
 expanded-upTo h le = record { len = h .len; rows = λ i hi. h .rows i (omega arith) }
 
 -- a block whose words were put before the rest
-take-stored : (m b : List ℕ) → length b ≡ 32 → 32 ≤ length m → take 32 (sets m 0 b) ≡ b
+pub take-stored : (m b : List ℕ) → length b ≡ 32 → 32 ≤ length m → take 32 (sets m 0 b) ≡ b
 take-stored m b len room = ap₂ take (sym len) (sets-eq b m 0 (rw len room)) ∙ take-append-seam b (drop (0 + length b) m)
 
 pub expanded-stored : {z : WordSize} (m b : List ℕ) {n o : List ℕ} {s : ℕ} → length b ≡ 32 → 32 ≤ length m → n ≡ sets m 0 b

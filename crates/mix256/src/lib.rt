@@ -94,7 +94,12 @@ pub fn shifts(j: usize) -> [u32; 4]
 pub fn next_shifts(k: [u32; 4]) -> [u32; 4]
     ensures { λ r. ⌜ ((j : ℕ) → k ≡ shifts lsh256 j → r ≡ shifts lsh256 (j + 1)) ⌝ }
 {
-    [word32::subtract(34, k[0]), word32::subtract(30, k[1]), word32::subtract(18, k[2]), word32::subtract(46, k[3])]
+    [
+        word32::subtract(34, k[0]),
+        word32::subtract(30, k[1]),
+        word32::subtract(18, k[2]),
+        word32::subtract(46, k[3]),
+    ]
 }
 
 // Four words from place a on.
@@ -112,19 +117,34 @@ fn four(m: &[u32], a: usize) -> [u32; 4]
 fn xor(a: [u32; 4], b: [u32; 4]) -> [u32; 4]
     ensures { λ r. ⌜ r ≡ wordwise (xor 32) a b ⌝ }
 {
-    [word32::exclusive_or(a[0], b[0]), word32::exclusive_or(a[1], b[1]), word32::exclusive_or(a[2], b[2]), word32::exclusive_or(a[3], b[3])]
+    [
+        word32::exclusive_or(a[0], b[0]),
+        word32::exclusive_or(a[1], b[1]),
+        word32::exclusive_or(a[2], b[2]),
+        word32::exclusive_or(a[3], b[3]),
+    ]
 }
 
 fn add(a: [u32; 4], b: [u32; 4]) -> [u32; 4]
     ensures { λ r. ⌜ r ≡ wordwise (add 32) a b ⌝ }
 {
-    [word32::add(a[0], b[0]), word32::add(a[1], b[1]), word32::add(a[2], b[2]), word32::add(a[3], b[3])]
+    [
+        word32::add(a[0], b[0]),
+        word32::add(a[1], b[1]),
+        word32::add(a[2], b[2]),
+        word32::add(a[3], b[3]),
+    ]
 }
 
 fn subtract(a: [u32; 4], b: [u32; 4]) -> [u32; 4]
     ensures { λ r. ⌜ r ≡ wordwise (subtract 32) a b ⌝ }
 {
-    [word32::subtract(a[0], b[0]), word32::subtract(a[1], b[1]), word32::subtract(a[2], b[2]), word32::subtract(a[3], b[3])]
+    [
+        word32::subtract(a[0], b[0]),
+        word32::subtract(a[1], b[1]),
+        word32::subtract(a[2], b[2]),
+        word32::subtract(a[3], b[3]),
+    ]
 }
 
 // By l to the left, where h is what is left of the width; and by h to the right.
@@ -139,7 +159,12 @@ fn turn_each(a: [u32; 4], l: u32, h: u32) -> [u32; 4]
     requires { ⌜ (l < 32) × (h < 32) × (l + h ≡ 32) ⌝ }
     ensures { λ r. ⌜ (r ≡ eachWord (rotateLeft 32 l) a) × (r ≡ eachWord (rotateRight 32 h) a) ⌝ }
 {
-    [turn(a[0], l, h), turn(a[1], l, h), turn(a[2], l, h), turn(a[3], l, h)]
+    [
+        turn(a[0], l, h),
+        turn(a[1], l, h),
+        turn(a[2], l, h),
+        turn(a[3], l, h),
+    ]
 }
 
 fn wide(x: u32) -> u64
@@ -218,11 +243,34 @@ fn unmix_pair(
 fn in_words(x0: [u32; 4], x1: [u32; 4], y0: [u32; 4], y1: [u32; 4]) -> [u32; 16]
     ensures { λ r. ⌜ r ≡ inWords (groups x0 x1 y0 y1) ⌝ }
 {
-    [x0[0], x0[1], x0[2], x0[3], x1[0], x1[1], x1[2], x1[3], y0[0], y0[1], y0[2], y0[3], y1[0], y1[1], y1[2], y1[3]]
+    [
+        x0[0],
+        x0[1],
+        x0[2],
+        x0[3],
+        x1[0],
+        x1[1],
+        x1[2],
+        x1[3],
+        y0[0],
+        y0[1],
+        y0[2],
+        y0[3],
+        y1[0],
+        y1[1],
+        y1[2],
+        y1[3],
+    ]
 }
 
 // The mix of step j (10), whose shifts are k.
-pub fn mix(sc: &[u32; Lsh256::CONSTANTS], pw: &[u64; 16], k: [u32; 4], j: usize, t: [u32; 16]) -> [u32; 16]
+pub fn mix(
+    sc: &[u32; Lsh256::CONSTANTS],
+    pw: &[u64; 16],
+    k: [u32; 4],
+    j: usize,
+    t: [u32; 16],
+) -> [u32; 16]
     requires { ⌜ (now sc ≡ constants lsh256) × (now pw ≡ powers (gamma lsh256)) × (k ≡ shifts lsh256 j) × (j < lsh256 .steps) ⌝ }
     ensures { λ r. ⌜ r ≡ mix lsh256 j t ⌝ }
 {
@@ -235,7 +283,13 @@ pub fn mix(sc: &[u32; Lsh256::CONSTANTS], pw: &[u64; 16], k: [u32; 4], j: usize,
     in_words(x0, x1, y0, y1)
 }
 
-pub fn unmix(sc: &[u32; Lsh256::CONSTANTS], pw: &[u64; 16], k: [u32; 4], j: usize, t: [u32; 16]) -> [u32; 16]
+pub fn unmix(
+    sc: &[u32; Lsh256::CONSTANTS],
+    pw: &[u64; 16],
+    k: [u32; 4],
+    j: usize,
+    t: [u32; 16],
+) -> [u32; 16]
     requires { ⌜ (now sc ≡ constants lsh256) × (now pw ≡ powers (remaining lsh256)) × (k ≡ shifts lsh256 j) × (j < lsh256 .steps) ⌝ }
     ensures { λ r. ⌜ r ≡ unmix lsh256 j t ⌝ }
 {
