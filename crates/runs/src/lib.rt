@@ -33,7 +33,7 @@ pub fn engine_of(number: u64) -> Engine {
     Engine::Words
 }
 
-// The faster one where it was measured.
+// The one that was measured to be faster at a word size.
 pub fn faster_engine(w: u64) -> Engine {
     if w == 32 {
         return Engine::Groups;
@@ -93,7 +93,7 @@ pub struct Run {
     pub count: usize,
 }
 
-// The whole blocks of s forward, in order, on the chain t, at one word size.
+// Runs the whole blocks of s forward, in order, on the chain t, at one word size. These four functions alone look at the engine.
 fn forward32(engine: Engine, t: [u32; 16], s: &[u8]) -> lsh256::Run
     ensures { λ r. ⌜ (r .chain ≡ forwards lsh256 (blocksOf lsh256 (now (s .entry))) t) × (r .count ≡ length (now (s .entry)) / blockBytes lsh256) ⌝ }
 {
@@ -112,7 +112,7 @@ fn forward64(engine: Engine, t: [u64; 16], s: &[u8]) -> lsh512::Run
     }
 }
 
-// The whole blocks of s backward, from the last.
+// Backward, from the last block.
 fn backward32(engine: Engine, t: [u32; 16], s: &[u8]) -> lsh256::Run
     ensures { λ r. ⌜ (r .chain ≡ backwards lsh256 (blocksOf lsh256 (now (s .entry))) t) × (r .count ≡ length (now (s .entry)) / blockBytes lsh256) ⌝ }
 {
