@@ -40,47 +40,46 @@ static void fill_buffers(void)
     memset(before.roll, 0, sizeof before.roll);
 }
 
-/* All that a call can answer; what it does not answer is zero. No bytes lie between the fields. */
+/* What the calls answer, by its kind: with the first number, and with the one that is tried. Answers are large, and the program runs with a small
+ * stack, so they are not passed on by value. */
 struct answer {
-    uint64_t number, count, same;
-    lsh_record next;
+    uint32_t number;
+    lsh_outcome outcome;
+    lsh_sameness sameness;
 };
 static struct answer first, made;
 
-static void keep_number(uint32_t number)
+static bool is_same_answer(void)
 {
-    made = (struct answer){.number = number};
+    return made.number == first.number && made.outcome.number == first.outcome.number && made.outcome.count == first.outcome.count
+        && memcmp(&made.outcome.next, &first.outcome.next, sizeof first.outcome.next) == 0
+        && made.sameness.number == first.sameness.number && made.sameness.same == first.sameness.same;
 }
 
-static void keep_outcome(lsh_outcome outcome)
-{
-    made = (struct answer){.number = outcome.number, .count = outcome.count, .next = outcome.next};
-}
-
-static void keep_sameness(lsh_sameness sameness)
-{
-    made = (struct answer){.number = sameness.number, .same = sameness.same};
-}
-
-static void check_answer(const char *call, uint32_t right)
+static void check_answer(const char *call, uint32_t number, uint32_t right)
 {
     if (tried == numbers[0]) {
         first = made;
         left_first = lent;
     }
-    check(made.number == right, "%s answers %" PRIu64 ", not %" PRIu32 ", tried = %" PRIu64, call, made.number, right, tried);
-    check(memcmp(&made, &first, sizeof made) == 0, "%s does not answer the same, tried = %" PRIu64, call, tried);
+    check(number == right, "%s answers %" PRIu32 ", not %" PRIu32 ", tried = %" PRIu64, call, number, right, tried);
+    check(is_same_answer(), "%s does not answer the same, tried = %" PRIu64, call, tried);
     check(memcmp(&lent, &left_first, sizeof lent) == 0, "%s does not leave the same bytes, tried = %" PRIu64, call, tried);
 }
 
-/* Makes a call with each of the numbers. The first argument is the right number of its answer. */
-#define TRY(right, ...)                                                                                                       \
-    for (size_t i = 0; i < COUNT(numbers); i++) {                                                                             \
-        tried = numbers[i];                                                                                                   \
-        lent = before;                                                                                                        \
-        _Generic((__VA_ARGS__), uint32_t: keep_number, lsh_outcome: keep_outcome, lsh_sameness: keep_sameness)(__VA_ARGS__); \
-        check_answer(#__VA_ARGS__, right);                                                                                    \
+/* Makes a call with each of the numbers, and keeps what it answers in a field. */
+#define TRY_EACH(right, field, number_field, ...)             \
+    for (size_t i = 0; i < COUNT(numbers); i++) {             \
+        tried = numbers[i];                                   \
+        lent = before;                                        \
+        made.field = __VA_ARGS__;                             \
+        check_answer(#__VA_ARGS__, made.number_field, right); \
     }
+
+/* Tries a call, by what it answers. The first argument is the right number. */
+#define TRY_NUMBER(right, ...) TRY_EACH(right, number, number, __VA_ARGS__)
+#define TRY_OUTCOME(right, ...) TRY_EACH(right, outcome, outcome.number, __VA_ARGS__)
+#define TRY_SAMENESS(right, ...) TRY_EACH(right, sameness, sameness.number, __VA_ARGS__)
 
 /* ---- what is tried ---- */
 
@@ -106,8 +105,8 @@ static void choose_order(uint64_t w)
 
 APART static void try_blocks(void)
 {
-    TRY(LSH_ACCEPTED, lsh_block_forward(tried, o.w, lent.chain, LSH_CHAIN_BYTES(o.w), lent.order, o.block));
-    TRY(LSH_ACCEPTED, lsh_block_backward(tried, o.w, lent.chain, LSH_CHAIN_BYTES(o.w), lent.order, o.block));
+    TRY_NUMBER(LSH_ACCEPTED, lsh_block_forward(tried, o.w, lent.chain, LSH_CHAIN_BYTES(o.w), lent.order, o.block));
+    TRY_NUMBER(LSH_ACCEPTED, lsh_block_backward(tried, o.w, lent.chain, LSH_CHAIN_BYTES(o.w), lent.order, o.block));
 }
 
 /* The records that the calls return are those that the next calls get. */
@@ -115,13 +114,13 @@ APART static void try_order(void)
 {
     uint64_t e = below(8);
     uint8_t last = random_last_byte(e);
-    TRY(LSH_ACCEPTED, lsh_open(tried, o.w, o.n));
-    o.opened = first.next;
-    TRY(LSH_ACCEPTED, lsh_append(tried, o.opened, lent.order, o.total));
-    o.r = first.next;
-    TRY(LSH_ACCEPTED, lsh_rewind(tried, o.r, o.keep, lent.order + o.from, o.total - o.from));
-    TRY(LSH_ACCEPTED, lsh_close(tried, o.r, last, e, lent.output, sizeof lent.output));
-    TRY(LSH_ACCEPTED, lsh_whole(tried, o.w, o.n, lent.order, o.total, last, e, lent.output, sizeof lent.output));
+    TRY_OUTCOME(LSH_ACCEPTED, lsh_open(tried, o.w, o.n));
+    o.opened = first.outcome.next;
+    TRY_OUTCOME(LSH_ACCEPTED, lsh_append(tried, o.opened, lent.order, o.total));
+    o.r = first.outcome.next;
+    TRY_OUTCOME(LSH_ACCEPTED, lsh_rewind(tried, o.r, o.keep, lent.order + o.from, o.total - o.from));
+    TRY_NUMBER(LSH_ACCEPTED, lsh_close(tried, o.r, last, e, lent.output, sizeof lent.output));
+    TRY_NUMBER(LSH_ACCEPTED, lsh_whole(tried, o.w, o.n, lent.order, o.total, last, e, lent.output, sizeof lent.output));
 }
 
 APART static void try_steps(void)
@@ -130,63 +129,63 @@ APART static void try_steps(void)
     o.begun = lsh_begin(o.r, before.order + left, o.total - left).next;
     while (left > o.from) {
         left -= o.block;
-        TRY(LSH_ACCEPTED, lsh_hand_back(tried, o.begun, lent.order + left, o.block));
-        o.begun = first.next;
+        TRY_OUTCOME(LSH_ACCEPTED, lsh_hand_back(tried, o.begun, lent.order + left, o.block));
+        o.begun = first.outcome.next;
     }
-    TRY(LSH_ACCEPTED, lsh_end(tried, o.begun, o.keep));
+    TRY_OUTCOME(LSH_ACCEPTED, lsh_end(tried, o.begun, o.keep));
 }
 
 /* A roll of two slots, which is kept as Append leaves it. */
 APART static void try_roll(void)
 {
     size_t roll_len = LSH_ROLL_BYTES(o.w, 2);
-    TRY(LSH_ACCEPTED, lsh_append_roll(tried, o.opened, lent.order, o.total, lent.roll, roll_len));
+    TRY_OUTCOME(LSH_ACCEPTED, lsh_append_roll(tried, o.opened, lent.order, o.total, lent.roll, roll_len));
     before = left_first;
-    TRY(LSH_ACCEPTED, lsh_rewind_roll(tried, o.r, o.keep, lent.order + o.from, o.total - o.from, lent.roll, roll_len));
-    TRY(LSH_ACCEPTED, lsh_end_roll(tried, o.begun, o.keep, lent.roll, roll_len));
+    TRY_OUTCOME(LSH_ACCEPTED, lsh_rewind_roll(tried, o.r, o.keep, lent.order + o.from, o.total - o.from, lent.roll, roll_len));
+    TRY_OUTCOME(LSH_ACCEPTED, lsh_end_roll(tried, o.begun, o.keep, lent.roll, roll_len));
 }
 
 /* The tag that is written is checked, as it is and with a bit changed. */
 APART static void try_tags(void)
 {
     size_t key_len = below(sizeof lent.key + 1), tag_len = LSH_TAG_BYTES(o.n);
-    TRY(LSH_ACCEPTED, lsh_tag_start(tried, o.w, o.n, lent.key, key_len));
-    TRY(LSH_ACCEPTED, lsh_tag_finish(tried, o.r, lent.key, key_len, lent.output, sizeof lent.output));
-    TRY(LSH_ACCEPTED, lsh_tag(tried, o.w, o.n, lent.key, key_len, lent.order, o.total, lent.output, sizeof lent.output));
+    TRY_OUTCOME(LSH_ACCEPTED, lsh_tag_start(tried, o.w, o.n, lent.key, key_len));
+    TRY_NUMBER(LSH_ACCEPTED, lsh_tag_finish(tried, o.r, lent.key, key_len, lent.output, sizeof lent.output));
+    TRY_NUMBER(LSH_ACCEPTED, lsh_tag(tried, o.w, o.n, lent.key, key_len, lent.order, o.total, lent.output, sizeof lent.output));
     memcpy(before.tag, left_first.output, tag_len);
-    TRY(LSH_ACCEPTED, lsh_tag_check(tried, o.w, o.n, lent.key, key_len, lent.order, o.total, lent.tag, tag_len));
-    check(first.same, "lsh_tag_check says no to a right tag");
+    TRY_SAMENESS(LSH_ACCEPTED, lsh_tag_check(tried, o.w, o.n, lent.key, key_len, lent.order, o.total, lent.tag, tag_len));
+    check(first.sameness.same, "lsh_tag_check says no to a right tag");
     before.tag[below(tag_len)] ^= 1;
-    TRY(LSH_ACCEPTED, lsh_tag_check(tried, o.w, o.n, lent.key, key_len, lent.order, o.total, lent.tag, tag_len));
-    check(!first.same, "lsh_tag_check says yes to a wrong tag");
+    TRY_SAMENESS(LSH_ACCEPTED, lsh_tag_check(tried, o.w, o.n, lent.key, key_len, lent.order, o.total, lent.tag, tag_len));
+    check(!first.sameness.same, "lsh_tag_check says yes to a wrong tag");
 }
 
-/* A word size that there is not, or a record of zeros. The last ones are refused for the bytes of the order, one of which is changed: blocks are run
- * before that shows. */
+/* A word size that there is not, or a record of zeros. The last ones are refused for the bytes of the order, one of which is changed: blocks
+ * are run before that shows. */
 APART static void try_refusals(void)
 {
     static const lsh_record zeros;
     size_t roll_len = LSH_ROLL_BYTES(o.w, 2);
-    TRY(LSH_BAD_WORD_SIZE, lsh_block_forward(tried, 0, lent.chain, LSH_CHAIN_BYTES(o.w), lent.order, o.block));
-    TRY(LSH_BAD_WORD_SIZE, lsh_block_backward(tried, 0, lent.chain, LSH_CHAIN_BYTES(o.w), lent.order, o.block));
-    TRY(LSH_BAD_WORD_SIZE, lsh_open(tried, 0, o.n));
-    TRY(LSH_UNSOUND_RECORD, lsh_append(tried, zeros, lent.order, o.total));
-    TRY(LSH_UNSOUND_RECORD, lsh_rewind(tried, zeros, o.keep, lent.order, o.total));
-    TRY(LSH_UNSOUND_RECORD, lsh_close(tried, zeros, 0, 0, lent.output, sizeof lent.output));
-    TRY(LSH_UNSOUND_RECORD, lsh_hand_back(tried, zeros, lent.order, o.block));
-    TRY(LSH_UNSOUND_RECORD, lsh_end(tried, zeros, o.keep));
-    TRY(LSH_UNSOUND_RECORD, lsh_append_roll(tried, zeros, lent.order, o.total, lent.roll, roll_len));
-    TRY(LSH_UNSOUND_RECORD, lsh_rewind_roll(tried, zeros, o.keep, lent.order, o.total, lent.roll, roll_len));
-    TRY(LSH_UNSOUND_RECORD, lsh_end_roll(tried, zeros, o.keep, lent.roll, roll_len));
-    TRY(LSH_BAD_WORD_SIZE, lsh_whole(tried, 0, o.n, lent.order, o.total, 0, 0, lent.output, sizeof lent.output));
-    TRY(LSH_BAD_WORD_SIZE, lsh_tag(tried, 0, o.n, lent.key, sizeof lent.key, lent.order, o.total, lent.output, sizeof lent.output));
-    TRY(LSH_BAD_WORD_SIZE, lsh_tag_start(tried, 0, o.n, lent.key, sizeof lent.key));
-    TRY(LSH_UNSOUND_RECORD, lsh_tag_finish(tried, zeros, lent.key, sizeof lent.key, lent.output, sizeof lent.output));
-    TRY(LSH_BAD_WORD_SIZE, lsh_tag_check(tried, 0, o.n, lent.key, sizeof lent.key, lent.order, o.total, lent.tag, sizeof lent.tag));
+    TRY_NUMBER(LSH_BAD_WORD_SIZE, lsh_block_forward(tried, 0, lent.chain, LSH_CHAIN_BYTES(o.w), lent.order, o.block));
+    TRY_NUMBER(LSH_BAD_WORD_SIZE, lsh_block_backward(tried, 0, lent.chain, LSH_CHAIN_BYTES(o.w), lent.order, o.block));
+    TRY_OUTCOME(LSH_BAD_WORD_SIZE, lsh_open(tried, 0, o.n));
+    TRY_OUTCOME(LSH_UNSOUND_RECORD, lsh_append(tried, zeros, lent.order, o.total));
+    TRY_OUTCOME(LSH_UNSOUND_RECORD, lsh_rewind(tried, zeros, o.keep, lent.order, o.total));
+    TRY_NUMBER(LSH_UNSOUND_RECORD, lsh_close(tried, zeros, 0, 0, lent.output, sizeof lent.output));
+    TRY_OUTCOME(LSH_UNSOUND_RECORD, lsh_hand_back(tried, zeros, lent.order, o.block));
+    TRY_OUTCOME(LSH_UNSOUND_RECORD, lsh_end(tried, zeros, o.keep));
+    TRY_OUTCOME(LSH_UNSOUND_RECORD, lsh_append_roll(tried, zeros, lent.order, o.total, lent.roll, roll_len));
+    TRY_OUTCOME(LSH_UNSOUND_RECORD, lsh_rewind_roll(tried, zeros, o.keep, lent.order, o.total, lent.roll, roll_len));
+    TRY_OUTCOME(LSH_UNSOUND_RECORD, lsh_end_roll(tried, zeros, o.keep, lent.roll, roll_len));
+    TRY_NUMBER(LSH_BAD_WORD_SIZE, lsh_whole(tried, 0, o.n, lent.order, o.total, 0, 0, lent.output, sizeof lent.output));
+    TRY_NUMBER(LSH_BAD_WORD_SIZE, lsh_tag(tried, 0, o.n, lent.key, sizeof lent.key, lent.order, o.total, lent.output, sizeof lent.output));
+    TRY_OUTCOME(LSH_BAD_WORD_SIZE, lsh_tag_start(tried, 0, o.n, lent.key, sizeof lent.key));
+    TRY_NUMBER(LSH_UNSOUND_RECORD, lsh_tag_finish(tried, zeros, lent.key, sizeof lent.key, lent.output, sizeof lent.output));
+    TRY_SAMENESS(LSH_BAD_WORD_SIZE, lsh_tag_check(tried, 0, o.n, lent.key, sizeof lent.key, lent.order, o.total, lent.tag, sizeof lent.tag));
     if (o.total >= o.block) {
         before.order[below(o.block)] ^= 1;
-        TRY(LSH_OPENING_DIFFERS, lsh_rewind(tried, o.r, 0, lent.order, o.total));
-        TRY(LSH_OPENING_DIFFERS, lsh_rewind_roll(tried, o.r, 0, lent.order, o.total, lent.roll, roll_len));
+        TRY_OUTCOME(LSH_OPENING_DIFFERS, lsh_rewind(tried, o.r, 0, lent.order, o.total));
+        TRY_OUTCOME(LSH_OPENING_DIFFERS, lsh_rewind_roll(tried, o.r, 0, lent.order, o.total, lent.roll, roll_len));
     }
 }
 
