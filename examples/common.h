@@ -1,4 +1,4 @@
-/* What the programs of this folder share: messages, the output, the answers of calls, files, numbers in bytes, and the command line.
+/* What the programs of this folder share: messages, the output, the answers of calls, engines, files, numbers in bytes, and the command line.
  *
  * A program says who it is before it includes this: PROGRAM is its name, and HELP the text that --help prints.
  * Every program ends with one of these statuses:
@@ -78,6 +78,15 @@ static inline void must_be_accepted(uint32_t number, const char *call)
     if (number != LSH_ACCEPTED) {
         fail(call, lsh_meaning(number));
     }
+}
+
+/* ---- engines ---- */
+
+/* The engine that was the faster one of a word size on the processors where it was measured. Where the other one is faster, it can be taken
+ * instead: no answer depends on it. */
+static inline uint64_t faster_engine(uint64_t w)
+{
+    return w == 32 ? LSH_ENGINE_GROUPS : LSH_ENGINE_WORDS;
 }
 
 /* ---- the output ---- */

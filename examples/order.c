@@ -20,6 +20,9 @@
 
 #include "common.h"
 
+/* The engine that every call is given: one for all of them, as they all have the same word size. */
+static uint64_t engine;
+
 /* The bytes of the order: its pictures. A rewind wants the last of them back; a driver that does not keep them in memory reads these from the
  * pictures' files again. */
 static struct contents pictures;
@@ -58,7 +61,7 @@ static void print_receipt(const uint8_t *receipt, const char *name)
 /* The receipt of the order. Its record is not changed, so the order may go on. */
 static void write_order(lsh_record order, uint8_t *receipt)
 {
-    must_be_accepted(lsh_close(order, 0, 0, receipt, LSH_RECEIPT_BYTES), "lsh_close");
+    must_be_accepted(lsh_close(engine, order, 0, 0, receipt, LSH_RECEIPT_BYTES), "lsh_close");
 }
 
 /* Ends the program if two records give different receipts. */
@@ -119,7 +122,7 @@ static lsh_record record_at_checkpoint(lsh_record order, const uint8_t *roll, si
  * this Append is one without the roll. */
 static lsh_record go_on_to_end(lsh_record first, lsh_record order)
 {
-    lsh_outcome outcome = lsh_append(first, pictures.bytes + first.total, order.total - first.total);
+    lsh_outcome outcome = lsh_append(engine, first, pictures.bytes + first.total, order.total - first.total);
     must_be_accepted(outcome.number, "lsh_append");
     return outcome.next;
 }
@@ -169,19 +172,20 @@ static void (*volatile clear_stack)(void) = overwrite_stack;
 /* Writes the tag of the first pictures. A tag has a record of its own, which begins with the key; the pictures are appended as to an order. */
 static void write_tag(lsh_record order, size_t count, uint8_t *tag)
 {
-    lsh_outcome outcome = lsh_tag_start(order.w, order.n, key.bytes, key.length);
+    lsh_outcome outcome = lsh_tag_start(engine, order.w, order.n, key.bytes, key.length);
     must_be_accepted(outcome.number, "lsh_tag_start");
     for (size_t i = 0; i < count; i++) {
-        outcome = lsh_append(outcome.next, pictures.bytes + places[i], places[i + 1] - places[i]);
+        outcome = lsh_append(engine, outcome.next, pictures.bytes + places[i], places[i + 1] - places[i]);
         must_be_accepted(outcome.number, "lsh_append");
     }
-    must_be_accepted(lsh_tag_finish(outcome.next, key.bytes, key.length, tag, LSH_TAG_BYTES(order.n)), "lsh_tag_finish");
+    must_be_accepted(lsh_tag_finish(engine, outcome.next, key.bytes, key.length, tag, LSH_TAG_BYTES(order.n)), "lsh_tag_finish");
 }
 
 /* Ends the program if a tag is not that of the first pictures. So a shop looks at an order that comes back with its tag. */
 static void must_be_tag(lsh_record order, size_t count, const uint8_t *tag)
 {
-    lsh_sameness sameness = lsh_tag_check(order.w, order.n, key.bytes, key.length, pictures.bytes, places[count], tag, LSH_TAG_BYTES(order.n));
+    lsh_sameness sameness =
+        lsh_tag_check(engine, order.w, order.n, key.bytes, key.length, pictures.bytes, places[count], tag, LSH_TAG_BYTES(order.n));
     must_be_accepted(sameness.number, "lsh_tag_check");
     if (!sameness.same) {
         fail("the tag", "it is not that of the order");
@@ -206,10 +210,10 @@ static lsh_record add_picture(lsh_record order, size_t i, const char *name)
 {
     const uint8_t *picture = pictures.bytes + places[i];
     size_t length = places[i + 1] - places[i];
-    must_be_accepted(lsh_whole(order.w, order.n, picture, length, 0, 0, receipts[i], LSH_RECEIPT_BYTES), "lsh_whole");
+    must_be_accepted(lsh_whole(engine, order.w, order.n, picture, length, 0, 0, receipts[i], LSH_RECEIPT_BYTES), "lsh_whole");
     print_receipt(receipts[i], name);
-    lsh_outcome outcome =
-        roll_length != 0 ? lsh_append_roll(order, picture, length, order_roll, roll_length) : lsh_append(order, picture, length);
+    lsh_outcome outcome = roll_length != 0 ? lsh_append_roll(engine, order, picture, length, order_roll, roll_length)
+                                           : lsh_append(engine, order, picture, length);
     must_be_accepted(outcome.number, "Append");
     return outcome.next;
 }
@@ -232,7 +236,7 @@ static lsh_record cut_order(lsh_record order, size_t length)
     /* Then one whole block after the other, from the last one on. */
     while (place > from) {
         place -= block;
-        outcome = lsh_hand_back(outcome.next, pictures.bytes + place, block);
+        outcome = lsh_hand_back(engine, outcome.next, pictures.bytes + place, block);
         must_be_accepted(outcome.number, "lsh_hand_back");
         /* Here a driver draws its screen. */
     }
@@ -241,7 +245,7 @@ static lsh_record cut_order(lsh_record order, size_t length)
     must_give_same_receipt(outcome.next, order);
 
     /* The end drops the bytes. An order with a roll has it in this step, and in no other one of a rewind in steps. */
-    outcome = roll_length != 0 ? lsh_end_roll(outcome.next, keep, order_roll, roll_length) : lsh_end(outcome.next, keep);
+    outcome = roll_length != 0 ? lsh_end_roll(engine, outcome.next, keep, order_roll, roll_length) : lsh_end(engine, outcome.next, keep);
     must_be_accepted(outcome.number, "the end of the rewind");
     return outcome.next;
 }
@@ -264,8 +268,9 @@ static void print_order(lsh_record order, size_t count, const char *name)
 /* Begins an order, with a roll if the pictures are not too long for one. */
 static lsh_record open_order(uint64_t w, uint64_t n)
 {
+    engine = faster_engine(w);
     roll_length = count_checkpoints(w, pictures.length) <= LSH_MOST_SLOTS ? LSH_ROLL_BYTES(w, LSH_MOST_SLOTS) : 0;
-    lsh_outcome outcome = lsh_open(w, n);
+    lsh_outcome outcome = lsh_open(engine, w, n);
     must_be_accepted(outcome.number, "lsh_open");
     return outcome.next;
 }

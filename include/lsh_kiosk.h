@@ -22,7 +22,7 @@
 #endif
 
 /* The version of the module: the archive, this header and the programs. */
-#define LSH_VERSION "1.7.0"
+#define LSH_VERSION "1.8.0"
 
 /* On each function: the compiler warns where the answer is dropped, since the refusal would be dropped with it. */
 #if defined(__cplusplus) || __STDC_VERSION__ >= 202311L
@@ -182,12 +182,20 @@ static_assert(offsetof(lsh_counts, number) == 0 && offsetof(lsh_counts, place) =
                   && offsetof(lsh_counts, reprints) == 24 && offsetof(lsh_counts, blanks) == 32 && sizeof(lsh_counts) == 40,
               "lsh_counts is laid out as in the archive");
 
+/* ---- engines ---- */
+
+/* What the calls that run blocks take first: which code runs the blocks of this call, word by word or in groups of four words. Every number
+ * but LSH_ENGINE_GROUPS is the words. No answer, no output and no record depends on it, so each call of an order may be given another one.
+ * Which is faster depends on the word size, the processor and the compiler (docs/DRIVER.md says how to find out). */
+#define LSH_ENGINE_WORDS UINT64_C(1)
+#define LSH_ENGINE_GROUPS UINT64_C(2)
+
 /* ---- blocks ---- */
 
 /* Runs one block forward on a chain, or backward: each undoes the other. The chain is 16 words of w bits, lowest byte first.
  * Answers 0 and replaces the chain, or answers LSH_BAD_WORD_SIZE or LSH_BAD_LENGTH, tested in that order, and changes nothing. */
-LSH_NODISCARD uint32_t lsh_block_forward(uint64_t w, uint8_t *chain, size_t chain_len, const uint8_t *block, size_t block_len);
-LSH_NODISCARD uint32_t lsh_block_backward(uint64_t w, uint8_t *chain, size_t chain_len, const uint8_t *block, size_t block_len);
+LSH_NODISCARD uint32_t lsh_block_forward(uint64_t engine, uint64_t w, uint8_t *chain, size_t chain_len, const uint8_t *block, size_t block_len);
+LSH_NODISCARD uint32_t lsh_block_backward(uint64_t engine, uint64_t w, uint8_t *chain, size_t chain_len, const uint8_t *block, size_t block_len);
 
 /* ---- an order ---- */
 
@@ -195,12 +203,12 @@ LSH_NODISCARD uint32_t lsh_block_backward(uint64_t w, uint8_t *chain, size_t cha
  * definition.
  * Answers 0 with the record of an order of no bytes; or answers LSH_BAD_WORD_SIZE or LSH_BAD_DIGEST_LENGTH, tested in that order, with a
  * record of zeros, which every other call refuses. The count is 0. */
-LSH_NODISCARD lsh_outcome lsh_open(uint64_t w, uint64_t n);
+LSH_NODISCARD lsh_outcome lsh_open(uint64_t engine, uint64_t w, uint64_t n);
 
 /* Adds a piece of any length to the end of an order.
  * Answers 0 with the record of the longer order and the number of blocks that were run forward: the whole blocks of the order after the
  * piece less those before it. Or answers LSH_UNSOUND_RECORD, LSH_OUT_OF_TURN or LSH_TOO_LONG, tested in that order. */
-LSH_NODISCARD lsh_outcome lsh_append(lsh_record r, const uint8_t *piece, size_t piece_len);
+LSH_NODISCARD lsh_outcome lsh_append(uint64_t engine, lsh_record r, const uint8_t *piece, size_t piece_len);
 
 /* Takes bytes off the end of an order. h are the last bytes of the order, from a place on where a block begins (a multiple of 4w); the
  * first `keep` of them remain, less than a block. To cut an order to c bytes, keep is c mod 4w and h is what the order has from place
@@ -208,14 +216,14 @@ LSH_NODISCARD lsh_outcome lsh_append(lsh_record r, const uint8_t *piece, size_t 
  * Answers 0 with the record of the shorter order and the number of blocks that were run backward: the whole blocks of h. Or answers
  * LSH_UNSOUND_RECORD, LSH_OUT_OF_TURN, LSH_BAD_START, LSH_BAD_KEEP, LSH_HELD_DIFFER or LSH_OPENING_DIFFERS, tested in that order. Hand back
  * what was appended: other bytes are taken where none of these tests shows them, and the record that follows is then not that of the order. */
-LSH_NODISCARD lsh_outcome lsh_rewind(lsh_record r, uint64_t keep, const uint8_t *h, size_t h_len);
+LSH_NODISCARD lsh_outcome lsh_rewind(uint64_t engine, lsh_record r, uint64_t keep, const uint8_t *h, size_t h_len);
 
 /* Writes the receipt of an order: its bytes, and then the top e bits of one more byte, `last`. Where the order is a whole number of bytes,
  * last and e are 0. The receipt is the one that lsh_whole writes for these bytes. The order may go on after it. While a split rewind is
  * unfinished, the order is that before the rewind.
  * Answers 0 and writes the first LSH_RECEIPT_BYTES bytes of the output, and no other; or answers LSH_UNSOUND_RECORD, LSH_BAD_EXTRA_BITS,
  * LSH_BAD_LAST_BYTE or LSH_SHORT_OUTPUT, tested in that order, and changes nothing. */
-LSH_NODISCARD uint32_t lsh_close(lsh_record r, uint8_t last, uint64_t e, uint8_t *output, size_t output_len);
+LSH_NODISCARD uint32_t lsh_close(uint64_t engine, lsh_record r, uint8_t last, uint64_t e, uint8_t *output, size_t output_len);
 
 /* ---- a rewind that is split into steps ---- */
 
@@ -231,14 +239,14 @@ LSH_NODISCARD lsh_outcome lsh_begin(lsh_record r, const uint8_t *bytes, size_t b
 /* Hands back one block of 4w bytes: the order's last whole block that was not yet handed back.
  * Answers 0; or LSH_UNSOUND_RECORD, LSH_OUT_OF_TURN or LSH_BAD_START, tested in that order. Another block than the order has there is taken,
  * and what lsh_end gives is then not the order. */
-LSH_NODISCARD lsh_outcome lsh_hand_back(lsh_record r, const uint8_t *block, size_t block_len);
+LSH_NODISCARD lsh_outcome lsh_hand_back(uint64_t engine, lsh_record r, const uint8_t *block, size_t block_len);
 
 /* Ends a split rewind. The first `keep` bytes of the block handed back last remain, or of the held bytes if none was: to cut an order to c
  * bytes, hand back the blocks down to the one that begins at c - keep, where keep is c mod 4w (the held bytes alone, if that is where they
  * begin).
  * Answers 0 with the record and the count that one lsh_rewind over all these bytes gives. Or answers LSH_UNSOUND_RECORD, LSH_OUT_OF_TURN,
  * LSH_BAD_KEEP or LSH_OPENING_DIFFERS, tested in that order; the split rewind is then still begun. */
-LSH_NODISCARD lsh_outcome lsh_end(lsh_record r, uint64_t keep);
+LSH_NODISCARD lsh_outcome lsh_end(uint64_t engine, lsh_record r, uint64_t keep);
 
 /* Abandons a split rewind: the record is again the one that lsh_begin was given.
  * Answers 0; or LSH_UNSOUND_RECORD or LSH_OUT_OF_TURN, tested in that order. */
@@ -274,20 +282,21 @@ LSH_NODISCARD lsh_outcome lsh_abandon(lsh_record r);
  * head. No other byte of the roll is written.
  * Answers 0 with the record and the count that lsh_append gives. Or answers LSH_UNSOUND_RECORD, LSH_OUT_OF_TURN, LSH_BAD_ROLL, LSH_TOO_LONG
  * or LSH_FULL_ROLL, tested in that order, and changes no byte of the roll. */
-LSH_NODISCARD lsh_outcome lsh_append_roll(lsh_record r, const uint8_t *piece, size_t piece_len, uint8_t *roll, size_t roll_len);
+LSH_NODISCARD lsh_outcome lsh_append_roll(uint64_t engine, lsh_record r, const uint8_t *piece, size_t piece_len, uint8_t *roll, size_t roll_len);
 
 /* Takes bytes off the end of an order with a roll, as lsh_rewind does, and unlinks the checkpoints past the new end; one at the end itself
  * stays. If there are any, the index that led to the first slot unlinked becomes 0, and the slots serve again. No other byte of the roll is
  * written.
  * Answers 0 with the record and the count that lsh_rewind gives. Or answers LSH_UNSOUND_RECORD, LSH_OUT_OF_TURN, LSH_BAD_ROLL, LSH_BAD_START,
  * LSH_BAD_KEEP, LSH_HELD_DIFFER or LSH_OPENING_DIFFERS, tested in that order, and changes no byte of the roll. */
-LSH_NODISCARD lsh_outcome lsh_rewind_roll(lsh_record r, uint64_t keep, const uint8_t *h, size_t h_len, uint8_t *roll, size_t roll_len);
+LSH_NODISCARD lsh_outcome lsh_rewind_roll(uint64_t engine, lsh_record r, uint64_t keep, const uint8_t *h, size_t h_len, uint8_t *roll,
+                                          size_t roll_len);
 
 /* Ends a split rewind of an order with a roll, as lsh_end does, and unlinks the checkpoints past the new end, as lsh_rewind_roll does. The
  * other steps take no roll.
  * Answers 0 with the record and the count that lsh_end gives. Or answers LSH_UNSOUND_RECORD, LSH_OUT_OF_TURN, LSH_BAD_ROLL, LSH_BAD_KEEP or
  * LSH_OPENING_DIFFERS, tested in that order, and changes no byte of the roll. */
-LSH_NODISCARD lsh_outcome lsh_end_roll(lsh_record r, uint64_t keep, uint8_t *roll, size_t roll_len);
+LSH_NODISCARD lsh_outcome lsh_end_roll(uint64_t engine, lsh_record r, uint64_t keep, uint8_t *roll, size_t roll_len);
 
 /* ---- one message ---- */
 
@@ -302,8 +311,8 @@ LSH_NODISCARD lsh_outcome lsh_end_roll(lsh_record r, uint64_t keep, uint8_t *rol
  *
  * Answers 0 and writes the first LSH_RECEIPT_BYTES bytes of the output, and no other; or answers LSH_BAD_WORD_SIZE, LSH_BAD_DIGEST_LENGTH,
  * LSH_TOO_LONG, LSH_BAD_EXTRA_BITS, LSH_BAD_LAST_BYTE or LSH_SHORT_OUTPUT, tested in that order, and changes nothing. */
-LSH_NODISCARD uint32_t lsh_whole(uint64_t w, uint64_t n, const uint8_t *message, size_t message_len, uint8_t last, uint64_t e, uint8_t *output,
-                                 size_t output_len);
+LSH_NODISCARD uint32_t lsh_whole(uint64_t engine, uint64_t w, uint64_t n, const uint8_t *message, size_t message_len, uint8_t last, uint64_t e,
+                                 uint8_t *output, size_t output_len);
 
 /* ---- tags with a key ---- */
 
@@ -316,8 +325,8 @@ LSH_NODISCARD uint32_t lsh_whole(uint64_t w, uint64_t n, const uint8_t *message,
 /* Writes the tag of one message.
  * Answers 0 and writes the first LSH_TAG_BYTES(n) bytes of the output, and no other; or answers LSH_BAD_WORD_SIZE, LSH_BAD_DIGEST_LENGTH,
  * LSH_NO_WHOLE_BYTES, LSH_TOO_LONG or LSH_SHORT_OUTPUT, tested in that order, and changes nothing. */
-LSH_NODISCARD uint32_t lsh_tag(uint64_t w, uint64_t n, const uint8_t *key, size_t key_len, const uint8_t *message, size_t message_len,
-                               uint8_t *output, size_t output_len);
+LSH_NODISCARD uint32_t lsh_tag(uint64_t engine, uint64_t w, uint64_t n, const uint8_t *key, size_t key_len, const uint8_t *message,
+                               size_t message_len, uint8_t *output, size_t output_len);
 
 /* Begins the tag of a message that comes in pieces: lsh_append adds each of them, and lsh_tag_finish writes the tag. With the same key at the
  * start and at the finish it is the tag of the joined pieces that were accepted. The record is that of an order which begins with the key's
@@ -325,20 +334,20 @@ LSH_NODISCARD uint32_t lsh_tag(uint64_t w, uint64_t n, const uint8_t *key, size_
  * Answers 0 with this record and a count of 1, for the key's block (those that are run for the digest of a long key are not counted); or
  * answers LSH_BAD_WORD_SIZE, LSH_BAD_DIGEST_LENGTH, LSH_NO_WHOLE_BYTES or LSH_TOO_LONG, tested in that order, with a record of zeros, which
  * every other call refuses, and a count of 0. */
-LSH_NODISCARD lsh_outcome lsh_tag_start(uint64_t w, uint64_t n, const uint8_t *key, size_t key_len);
+LSH_NODISCARD lsh_outcome lsh_tag_start(uint64_t engine, uint64_t w, uint64_t n, const uint8_t *key, size_t key_len);
 
 /* Writes the tag of the pieces appended since lsh_tag_start. The key is that of the start, which the record does not tell. The record is not
  * changed: more can be appended, and the tag written again. Every sound record is taken, also one from lsh_open and one with a split rewind
  * begun: the digest that lsh_close gives for it where last and e are 0 stands as the inner digest of HMAC.
  * Answers 0 and writes the first LSH_TAG_BYTES(r.n) bytes of the output, and no other; or answers LSH_UNSOUND_RECORD, LSH_NO_WHOLE_BYTES,
  * LSH_TOO_LONG (the key alone) or LSH_SHORT_OUTPUT, tested in that order, and changes nothing. */
-LSH_NODISCARD uint32_t lsh_tag_finish(lsh_record r, const uint8_t *key, size_t key_len, uint8_t *output, size_t output_len);
+LSH_NODISCARD uint32_t lsh_tag_finish(uint64_t engine, lsh_record r, const uint8_t *key, size_t key_len, uint8_t *output, size_t output_len);
 
 /* Tells whether a tag is the one that lsh_tag writes: all of its LSH_TAG_BYTES(n) bytes agree. Each of them is compared, whatever the others
  * are. A tag of another length is not refused: it gets a no.
  * Answers 0 and yes or no; or answers LSH_BAD_WORD_SIZE, LSH_BAD_DIGEST_LENGTH, LSH_NO_WHOLE_BYTES or LSH_TOO_LONG, tested in that order. */
-LSH_NODISCARD lsh_sameness lsh_tag_check(uint64_t w, uint64_t n, const uint8_t *key, size_t key_len, const uint8_t *message, size_t message_len,
-                                         const uint8_t *tag, size_t tag_len);
+LSH_NODISCARD lsh_sameness lsh_tag_check(uint64_t engine, uint64_t w, uint64_t n, const uint8_t *key, size_t key_len, const uint8_t *message,
+                                         size_t message_len, const uint8_t *tag, size_t tag_len);
 
 /* ---- receipts ---- */
 

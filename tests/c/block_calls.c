@@ -1,4 +1,5 @@
-/* Calls lsh_block_forward and lsh_block_backward as a driver written in C does, with right and with wrong arguments.
+/* Calls lsh_block_forward and lsh_block_backward as a driver written in C does, with right and with wrong arguments, on each engine alone, and
+ * one run on one engine and the next on the other.
  * After each call it checks the answer, every byte of both buffers and the guard bytes on both sides of them.
  * It prints how many checks passed, or each that failed; the exit status is 0 only if all passed. */
 #include <inttypes.h>
@@ -12,13 +13,13 @@
 #define LARGEST LSH_BLOCK_BYTES(64)
 #include "checks.h"
 
-#define ROUNDS 10000 /* random chains and blocks at each word size */
+#define ROUNDS 2500 /* random chains and blocks at each word size, for each run and each pair of engines */
 
 /* ---- calls ---- */
 
 struct run {
     const char *name;
-    uint32_t (*call)(uint64_t w, uint8_t *chain, size_t chain_len, const uint8_t *block, size_t block_len);
+    uint32_t (*call)(uint64_t engine, uint64_t w, uint8_t *chain, size_t chain_len, const uint8_t *block, size_t block_len);
 };
 
 static const struct run runs[2] = {
@@ -46,7 +47,7 @@ static void make_call(const struct run *run, uint64_t w, struct guarded *chain, 
     bool accepted = right == LSH_ACCEPTED;
     take_copy(chain);
     take_copy(block);
-    uint32_t answer = run->call(w, buffer(chain), chain_len, buffer(block), block_len);
+    uint32_t answer = run->call(engine(), w, buffer(chain), chain_len, buffer(block), block_len);
 
     char said[160];
     snprintf(said, sizeof said, "%s(w = %" PRIu64 ", chain of %zu bytes, block of %zu bytes)", run->name, w, chain_len,
@@ -87,21 +88,38 @@ static void try_word_sizes_and_lengths(const struct run *run)
     }
 }
 
-/* Each run changes a random chain, and the other run gives it back. */
+/* A run on one engine changes a random chain, and the other run on the same engine or on the other gives it back. */
+static void try_round_trip(uint64_t w, const struct run *there, uint64_t engine_there, const struct run *back, uint64_t engine_back,
+                           struct guarded *chain, struct guarded *block, uint8_t *changed)
+{
+    const size_t size = LSH_CHAIN_BYTES(w);
+    uint8_t first[LARGEST];
+    memcpy(first, buffer(chain), size);
+    only_engine = engine_there;
+    make_right_call(there, w, chain, block);
+    memcpy(changed, buffer(chain), size);
+    check(memcmp(changed, first, size) != 0, "%s leaves a random chain as it is, w = %" PRIu64, there->name, w);
+    only_engine = engine_back;
+    make_right_call(back, w, chain, block);
+    check(memcmp(buffer(chain), first, size) == 0, "%s does not undo %s of engine %" PRIu64 ", w = %" PRIu64, back->name, there->name,
+          engine_there, w);
+}
+
+/* Every pair of engines on the same chains and blocks: the two make the same of a chain. */
 static void try_round_trips(uint64_t w, const struct run *there, const struct run *back)
 {
     struct guarded chain, block;
-    uint8_t first[LARGEST];
+    uint8_t changed[COUNT(engines)][LARGEST];
     for (int i = 0; i < ROUNDS; i++) {
         fill(&chain);
         fill(&block);
-        memcpy(first, buffer(&chain), LSH_CHAIN_BYTES(w));
-        make_right_call(there, w, &chain, &block);
-        check(memcmp(buffer(&chain), first, LSH_CHAIN_BYTES(w)) != 0, "%s leaves random chain %d as it is, w = %" PRIu64,
-              there->name, i, w);
-        make_right_call(back, w, &chain, &block);
-        check(memcmp(buffer(&chain), first, LSH_CHAIN_BYTES(w)) == 0, "%s does not undo %s on random chain %d, w = %" PRIu64,
-              back->name, there->name, i, w);
+        for (size_t t = 0; t < COUNT(engines); t++) {
+            for (size_t b = 0; b < COUNT(engines); b++) {
+                try_round_trip(w, there, engines[t], back, engines[b], &chain, &block, changed[t]);
+            }
+        }
+        check(memcmp(changed[0], changed[1], LSH_CHAIN_BYTES(w)) == 0, "%s makes two chains of random chain %d, w = %" PRIu64, there->name, i,
+              w);
     }
 }
 
@@ -150,13 +168,18 @@ static void try_opening_chain(const struct opening *opening)
 
 int main(void)
 {
-    for (size_t i = 0; i < COUNT(openings); i++) {
-        try_opening_chain(&openings[i]);
-        try_round_trips(openings[i].w, &runs[0], &runs[1]);
-        try_round_trips(openings[i].w, &runs[1], &runs[0]);
+    for (uint64_t w = 32; w <= 64; w += 32) {
+        try_round_trips(w, &runs[0], &runs[1]);
+        try_round_trips(w, &runs[1], &runs[0]);
     }
-    for (size_t i = 0; i < COUNT(runs); i++) {
-        try_word_sizes_and_lengths(&runs[i]);
+    for (size_t k = 0; k < COUNT(engines); k++) {
+        only_engine = engines[k];
+        for (size_t i = 0; i < COUNT(openings); i++) {
+            try_opening_chain(&openings[i]);
+        }
+        for (size_t i = 0; i < COUNT(runs); i++) {
+            try_word_sizes_and_lengths(&runs[i]);
+        }
     }
     return report();
 }

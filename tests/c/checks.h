@@ -1,9 +1,10 @@
-/* What the programs of this folder share: checks that are counted, random numbers, and buffers between guard bytes.
+/* What the programs of this folder share: checks that are counted, random numbers, engines, and buffers between guard bytes.
  * A program includes lsh_kiosk.h and defines two names before it includes this file: PROGRAM, its own name as a string,
  * and LARGEST, the bytes of the largest buffer between guard bytes that it lends. It is C and C++. */
 #ifndef CHECKS_H
 #define CHECKS_H
 
+#include <inttypes.h>
 #include <stdalign.h>
 #include <stdarg.h>
 #include <stdbool.h>
@@ -27,6 +28,9 @@
 
 static unsigned long passed, failed;
 
+/* The engine that was given to a call last, which is said with a failure; 0 if there was none. */
+static uint64_t last_engine;
+
 __attribute__((format(printf, 2, 3))) static void check(bool holds, const char *format, ...)
 {
     if (holds) {
@@ -38,6 +42,9 @@ __attribute__((format(printf, 2, 3))) static void check(bool holds, const char *
         va_start(words, format);
         fputs(PROGRAM ": FAILED: ", stdout);
         vprintf(format, words);
+        if (last_engine != 0) {
+            printf(" (engine %" PRIu64 ")", last_engine);
+        }
         putchar('\n');
         va_end(words);
     }
@@ -67,6 +74,20 @@ static uint64_t next_random(void)
 static inline size_t below(size_t limit)
 {
     return (size_t)(next_random() % limit);
+}
+
+/* ---- engines ---- */
+
+static const uint64_t engines[] = {LSH_ENGINE_WORDS, LSH_ENGINE_GROUPS};
+
+/* The engine of all calls, or 0 where each call is given one at random. */
+static uint64_t only_engine;
+
+/* An engine for a call. What is right never depends on it: where it is worked out by calls, these are given the words. */
+static inline uint64_t engine(void)
+{
+    last_engine = only_engine != 0 ? only_engine : engines[below(COUNT(engines))];
+    return last_engine;
 }
 
 /* ---- numbers that are tried ---- */

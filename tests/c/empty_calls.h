@@ -89,14 +89,14 @@ static void check_samenesses(const char *call, lsh_sameness first, lsh_sameness 
 static void try_block_calls(uint64_t w)
 {
     size_t chain_len = LSH_CHAIN_BYTES(w), block_len = LSH_BLOCK_BYTES(w);
-    TRY_NUMBER(LSH_BAD_LENGTH, lsh_block_forward(w, empty, 0, lent.block, block_len));
-    TRY_NUMBER(LSH_BAD_LENGTH, lsh_block_forward(w, lent.chain, chain_len, empty, 0));
-    TRY_NUMBER(LSH_BAD_LENGTH, lsh_block_forward(w, empty, 0, empty, 0));
-    TRY_NUMBER(LSH_BAD_WORD_SIZE, lsh_block_forward(0, empty, 0, empty, 0));
-    TRY_NUMBER(LSH_BAD_LENGTH, lsh_block_backward(w, empty, 0, lent.block, block_len));
-    TRY_NUMBER(LSH_BAD_LENGTH, lsh_block_backward(w, lent.chain, chain_len, empty, 0));
-    TRY_NUMBER(LSH_BAD_LENGTH, lsh_block_backward(w, empty, 0, empty, 0));
-    TRY_NUMBER(LSH_BAD_WORD_SIZE, lsh_block_backward(0, empty, 0, empty, 0));
+    TRY_NUMBER(LSH_BAD_LENGTH, lsh_block_forward(engine(), w, empty, 0, lent.block, block_len));
+    TRY_NUMBER(LSH_BAD_LENGTH, lsh_block_forward(engine(), w, lent.chain, chain_len, empty, 0));
+    TRY_NUMBER(LSH_BAD_LENGTH, lsh_block_forward(engine(), w, empty, 0, empty, 0));
+    TRY_NUMBER(LSH_BAD_WORD_SIZE, lsh_block_forward(engine(), 0, empty, 0, empty, 0));
+    TRY_NUMBER(LSH_BAD_LENGTH, lsh_block_backward(engine(), w, empty, 0, lent.block, block_len));
+    TRY_NUMBER(LSH_BAD_LENGTH, lsh_block_backward(engine(), w, lent.chain, chain_len, empty, 0));
+    TRY_NUMBER(LSH_BAD_LENGTH, lsh_block_backward(engine(), w, empty, 0, empty, 0));
+    TRY_NUMBER(LSH_BAD_WORD_SIZE, lsh_block_backward(engine(), 0, empty, 0, empty, 0));
 }
 
 static uint32_t first_refusal(uint32_t earlier, uint32_t later)
@@ -128,12 +128,12 @@ static uint32_t start_answer(uint64_t w, const lsh_record *r)
 
 APART static void try_order_calls(uint64_t w, const lsh_record *r)
 {
-    TRY_OUTCOME(turn_answer(r), lsh_append(*r, empty, 0));
-    TRY_OUTCOME(start_answer(w, r), lsh_rewind(*r, 0, empty, 0));
-    TRY_OUTCOME(first_refusal(start_answer(w, r), LSH_BAD_KEEP), lsh_rewind(*r, 1, empty, 0));
-    TRY_NUMBER(first_refusal(sound_answer(r), LSH_SHORT_OUTPUT), lsh_close(*r, 0, 0, empty, 0));
+    TRY_OUTCOME(turn_answer(r), lsh_append(engine(), *r, empty, 0));
+    TRY_OUTCOME(start_answer(w, r), lsh_rewind(engine(), *r, 0, empty, 0));
+    TRY_OUTCOME(first_refusal(start_answer(w, r), LSH_BAD_KEEP), lsh_rewind(engine(), *r, 1, empty, 0));
+    TRY_NUMBER(first_refusal(sound_answer(r), LSH_SHORT_OUTPUT), lsh_close(engine(), *r, 0, 0, empty, 0));
     TRY_OUTCOME(start_answer(w, r), lsh_begin(*r, empty, 0));
-    TRY_OUTCOME(first_refusal(step_answer(r), LSH_BAD_START), lsh_hand_back(*r, empty, 0));
+    TRY_OUTCOME(first_refusal(step_answer(r), LSH_BAD_START), lsh_hand_back(engine(), *r, empty, 0));
 }
 
 /* The orders have fewer blocks than have a checkpoint, so a new roll is the right one. */
@@ -141,21 +141,21 @@ APART static void try_roll_calls(uint64_t w, const lsh_record *r)
 {
     size_t block_len = LSH_BLOCK_BYTES(w), roll_len = LSH_ROLL_BYTES(w, 1);
     uint32_t no_roll = first_refusal(turn_answer(r), LSH_BAD_ROLL);
-    TRY_OUTCOME(turn_answer(r), lsh_append_roll(*r, empty, 0, lent.roll, roll_len));
-    TRY_OUTCOME(no_roll, lsh_append_roll(*r, lent.block, block_len, empty, 0));
-    TRY_OUTCOME(no_roll, lsh_append_roll(*r, empty, 0, empty, 0));
-    TRY_OUTCOME(start_answer(w, r), lsh_rewind_roll(*r, 0, empty, 0, lent.roll, roll_len));
-    TRY_OUTCOME(no_roll, lsh_rewind_roll(*r, 0, lent.block, block_len, empty, 0));
-    TRY_OUTCOME(no_roll, lsh_rewind_roll(*r, 0, empty, 0, empty, 0));
-    TRY_OUTCOME(first_refusal(step_answer(r), LSH_BAD_ROLL), lsh_end_roll(*r, 0, empty, 0));
+    TRY_OUTCOME(turn_answer(r), lsh_append_roll(engine(), *r, empty, 0, lent.roll, roll_len));
+    TRY_OUTCOME(no_roll, lsh_append_roll(engine(), *r, lent.block, block_len, empty, 0));
+    TRY_OUTCOME(no_roll, lsh_append_roll(engine(), *r, empty, 0, empty, 0));
+    TRY_OUTCOME(start_answer(w, r), lsh_rewind_roll(engine(), *r, 0, empty, 0, lent.roll, roll_len));
+    TRY_OUTCOME(no_roll, lsh_rewind_roll(engine(), *r, 0, lent.block, block_len, empty, 0));
+    TRY_OUTCOME(no_roll, lsh_rewind_roll(engine(), *r, 0, empty, 0, empty, 0));
+    TRY_OUTCOME(first_refusal(step_answer(r), LSH_BAD_ROLL), lsh_end_roll(engine(), *r, 0, empty, 0));
 }
 
 APART static void try_tag_finish(uint64_t w, const lsh_record *r)
 {
     uint32_t no_output = first_refusal(sound_answer(r), LSH_SHORT_OUTPUT);
-    TRY_NUMBER(sound_answer(r), lsh_tag_finish(*r, empty, 0, lent.output, sizeof lent.output));
-    TRY_NUMBER(no_output, lsh_tag_finish(*r, lent.block, LSH_BLOCK_BYTES(w), empty, 0));
-    TRY_NUMBER(no_output, lsh_tag_finish(*r, empty, 0, empty, 0));
+    TRY_NUMBER(sound_answer(r), lsh_tag_finish(engine(), *r, empty, 0, lent.output, sizeof lent.output));
+    TRY_NUMBER(no_output, lsh_tag_finish(engine(), *r, lent.block, LSH_BLOCK_BYTES(w), empty, 0));
+    TRY_NUMBER(no_output, lsh_tag_finish(engine(), *r, empty, 0, empty, 0));
 }
 
 static void try_calls_on_record(uint64_t w, const lsh_record *r)
@@ -169,9 +169,9 @@ static void try_calls_on_record(uint64_t w, const lsh_record *r)
 APART static void try_records(uint64_t w)
 {
     static lsh_record opened, held, whole, begun, zeros;
-    opened = lsh_open(w, DIGEST_BITS).next;
-    held = lsh_append(opened, before.block, 1).next;
-    whole = lsh_append(opened, before.block, LSH_BLOCK_BYTES(w)).next;
+    opened = lsh_open(engine(), w, DIGEST_BITS).next;
+    held = lsh_append(engine(), opened, before.block, 1).next;
+    whole = lsh_append(engine(), opened, before.block, LSH_BLOCK_BYTES(w)).next;
     begun = lsh_begin(whole, before.block, 0).next;
     check(held.total == 1 && whole.total == LSH_BLOCK_BYTES(w) && begun.mark == 1, "the records are not those to try, w = %" PRIu64, w);
     try_calls_on_record(w, &opened);
@@ -185,10 +185,10 @@ static void try_whole(uint64_t w)
 {
     uint64_t n = DIGEST_BITS;
     size_t output_len = sizeof lent.output;
-    TRY_NUMBER(LSH_ACCEPTED, lsh_whole(w, n, empty, 0, 0, 0, lent.output, output_len));
-    TRY_NUMBER(LSH_ACCEPTED, lsh_whole(w, n, empty, 0, 0x80, 1, lent.output, output_len));
-    TRY_NUMBER(LSH_SHORT_OUTPUT, lsh_whole(w, n, lent.block, sizeof lent.block, 0, 0, empty, 0));
-    TRY_NUMBER(LSH_SHORT_OUTPUT, lsh_whole(w, n, empty, 0, 0, 0, empty, 0));
+    TRY_NUMBER(LSH_ACCEPTED, lsh_whole(engine(), w, n, empty, 0, 0, 0, lent.output, output_len));
+    TRY_NUMBER(LSH_ACCEPTED, lsh_whole(engine(), w, n, empty, 0, 0x80, 1, lent.output, output_len));
+    TRY_NUMBER(LSH_SHORT_OUTPUT, lsh_whole(engine(), w, n, lent.block, sizeof lent.block, 0, 0, empty, 0));
+    TRY_NUMBER(LSH_SHORT_OUTPUT, lsh_whole(engine(), w, n, empty, 0, 0, 0, empty, 0));
 }
 
 /* The chain and the block are lent as a key and a message. */
@@ -197,26 +197,26 @@ APART static void try_tags(uint64_t w)
     uint64_t n = DIGEST_BITS;
     uint8_t *key = lent.chain, *message = lent.block;
     size_t key_len = sizeof lent.chain, message_len = sizeof lent.block, output_len = sizeof lent.output;
-    TRY_NUMBER(LSH_ACCEPTED, lsh_tag(w, n, empty, 0, message, message_len, lent.output, output_len));
-    TRY_NUMBER(LSH_ACCEPTED, lsh_tag(w, n, key, key_len, empty, 0, lent.output, output_len));
-    TRY_NUMBER(LSH_ACCEPTED, lsh_tag(w, n, empty, 0, empty, 0, lent.output, output_len));
-    TRY_NUMBER(LSH_SHORT_OUTPUT, lsh_tag(w, n, key, key_len, message, message_len, empty, 0));
-    TRY_NUMBER(LSH_SHORT_OUTPUT, lsh_tag(w, n, empty, 0, empty, 0, empty, 0));
-    TRY_OUTCOME(LSH_ACCEPTED, lsh_tag_start(w, n, empty, 0));
+    TRY_NUMBER(LSH_ACCEPTED, lsh_tag(engine(), w, n, empty, 0, message, message_len, lent.output, output_len));
+    TRY_NUMBER(LSH_ACCEPTED, lsh_tag(engine(), w, n, key, key_len, empty, 0, lent.output, output_len));
+    TRY_NUMBER(LSH_ACCEPTED, lsh_tag(engine(), w, n, empty, 0, empty, 0, lent.output, output_len));
+    TRY_NUMBER(LSH_SHORT_OUTPUT, lsh_tag(engine(), w, n, key, key_len, message, message_len, empty, 0));
+    TRY_NUMBER(LSH_SHORT_OUTPUT, lsh_tag(engine(), w, n, empty, 0, empty, 0, empty, 0));
+    TRY_OUTCOME(LSH_ACCEPTED, lsh_tag_start(engine(), w, n, empty, 0));
 
     /* A tag that is right for a message of no bytes with this key, and for no other. */
     uint8_t tag[LSH_TAG_BYTES(DIGEST_BITS)];
-    check(lsh_tag(w, n, before.chain, key_len, before.block, 0, tag, sizeof tag) == LSH_ACCEPTED, "lsh_tag refuses, w = %" PRIu64, w);
-    TRY_SAMENESS(LSH_ACCEPTED, true, lsh_tag_check(w, n, key, key_len, empty, 0, tag, sizeof tag));
-    TRY_SAMENESS(LSH_ACCEPTED, false, lsh_tag_check(w, n, empty, 0, empty, 0, tag, sizeof tag));
-    TRY_SAMENESS(LSH_ACCEPTED, false, lsh_tag_check(w, n, key, key_len, message, message_len, empty, 0));
-    TRY_SAMENESS(LSH_ACCEPTED, false, lsh_tag_check(w, n, empty, 0, empty, 0, empty, 0));
+    check(lsh_tag(engine(), w, n, before.chain, key_len, before.block, 0, tag, sizeof tag) == LSH_ACCEPTED, "lsh_tag refuses, w = %" PRIu64, w);
+    TRY_SAMENESS(LSH_ACCEPTED, true, lsh_tag_check(engine(), w, n, key, key_len, empty, 0, tag, sizeof tag));
+    TRY_SAMENESS(LSH_ACCEPTED, false, lsh_tag_check(engine(), w, n, empty, 0, empty, 0, tag, sizeof tag));
+    TRY_SAMENESS(LSH_ACCEPTED, false, lsh_tag_check(engine(), w, n, key, key_len, message, message_len, empty, 0));
+    TRY_SAMENESS(LSH_ACCEPTED, false, lsh_tag_check(engine(), w, n, empty, 0, empty, 0, empty, 0));
 }
 
 static void try_receipts(void)
 {
     uint8_t receipt[LSH_RECEIPT_BYTES];
-    check(lsh_whole(32, DIGEST_BITS, before.block, 1, 0, 0, receipt, sizeof receipt) == LSH_ACCEPTED, "lsh_whole refuses");
+    check(lsh_whole(engine(), 32, DIGEST_BITS, before.block, 1, 0, 0, receipt, sizeof receipt) == LSH_ACCEPTED, "lsh_whole refuses");
     TRY_SAMENESS(LSH_NO_RECEIPTS, false, lsh_same(empty, 0, receipt, sizeof receipt));
     TRY_SAMENESS(LSH_NO_RECEIPTS, false, lsh_same(receipt, sizeof receipt, empty, 0));
     TRY_SAMENESS(LSH_NO_RECEIPTS, false, lsh_same(empty, 0, empty, 0));

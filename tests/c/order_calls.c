@@ -28,7 +28,7 @@ static void close_as_whole(const lsh_record *r)
     fill(&output);
     close_order(r, last, e, LSH_RECEIPT_BYTES + below(LARGEST - LSH_RECEIPT_BYTES));
     uint8_t receipt[LSH_RECEIPT_BYTES];
-    check(lsh_whole(r->w, r->n, buffer(&lent), r->total, last, e, receipt, sizeof receipt) == LSH_ACCEPTED
+    check(lsh_whole(engine(), r->w, r->n, buffer(&lent), r->total, last, e, receipt, sizeof receipt) == LSH_ACCEPTED
               && memcmp(buffer(&output), receipt, sizeof receipt) == 0,
           "lsh_close and lsh_whole write two receipts of one order of %" PRIu64 " bytes", r->total);
 }

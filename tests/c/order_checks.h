@@ -50,22 +50,22 @@ static void check_lent(const char *said)
 
 /* ---- calls ---- */
 
-/* Each of the functions below makes a call twice and checks all of it. The outcome that it returns stays until the next call: a record out of it
- * is copied before it is tried. */
+/* Each of the functions below makes a call twice, each time on an engine of its own, and checks all of it. The outcome that it returns stays
+ * until the next call: a record out of it is copied before it is tried. */
 
 /* The calls once more, as the archive has them: with the address of their answer. */
-void *open_to(void *answer, uint64_t w, uint64_t n) __asm__("lsh_open");
-void *append_to(void *answer, lsh_record r, const uint8_t *piece, size_t piece_len) __asm__("lsh_append");
-void *rewind_to(void *answer, lsh_record r, uint64_t keep, const uint8_t *h, size_t h_len) __asm__("lsh_rewind");
+void *open_to(void *answer, uint64_t engine, uint64_t w, uint64_t n) __asm__("lsh_open");
+void *append_to(void *answer, uint64_t engine, lsh_record r, const uint8_t *piece, size_t piece_len) __asm__("lsh_append");
+void *rewind_to(void *answer, uint64_t engine, lsh_record r, uint64_t keep, const uint8_t *h, size_t h_len) __asm__("lsh_rewind");
 
 APART static const lsh_outcome *open_order(uint64_t w, uint64_t n)
 {
     char said[80];
     snprintf(said, sizeof said, "lsh_open(w = %" PRIu64 ", n = %" PRIu64 ")", w, n);
     lsh_outcome right = right_open(w, n);
-    lsh_outcome outcome = lsh_open(w, n);
+    lsh_outcome outcome = lsh_open(engine(), w, n);
     check_outcome(&outcome, &right, said);
-    open_to(place_for_answer(&place), w, n);
+    open_to(place_for_answer(&place), engine(), w, n);
     check_place(&right, said);
     return &made;
 }
@@ -78,10 +78,10 @@ APART static const lsh_outcome *append(const lsh_record *r, size_t from, size_t 
     const uint8_t *piece = buffer(&lent) + from;
     lsh_outcome right = right_append(r, piece, piece_len);
     take_copy(&lent);
-    lsh_outcome outcome = lsh_append(*r, piece, piece_len);
+    lsh_outcome outcome = lsh_append(engine(), *r, piece, piece_len);
     check_outcome(&outcome, &right, said);
     check_lent(said);
-    append_to(place_for_answer(&place), *r, piece, piece_len);
+    append_to(place_for_answer(&place), engine(), *r, piece, piece_len);
     check_place(&right, said);
     check_lent(said);
     return &made;
@@ -94,10 +94,10 @@ APART static const lsh_outcome *rewind_order(const lsh_record *r, uint64_t keep,
     const uint8_t *h = buffer(&lent) + from;
     lsh_outcome right = right_rewind(r, keep, h, h_len);
     take_copy(&lent);
-    lsh_outcome outcome = lsh_rewind(*r, keep, h, h_len);
+    lsh_outcome outcome = lsh_rewind(engine(), *r, keep, h, h_len);
     check_outcome(&outcome, &right, said);
     check_lent(said);
-    rewind_to(place_for_answer(&place), *r, keep, h, h_len);
+    rewind_to(place_for_answer(&place), engine(), *r, keep, h, h_len);
     check_place(&right, said);
     check_lent(said);
     return &made;
@@ -109,7 +109,7 @@ APART static void close_order(const lsh_record *r, uint8_t last, uint64_t e, siz
     SAY(said, "lsh_close", r, "last = %u, e = %" PRIu64 ", output of %zu bytes", last, e, output_len);
     uint32_t right = right_close_answer(r, last, e, output_len);
     take_copy(&output);
-    uint32_t answer = lsh_close(*r, last, e, buffer(&output), output_len);
+    uint32_t answer = lsh_close(engine(), *r, last, e, buffer(&output), output_len);
     check(answer == right, "%s answers %" PRIu32 ", not %" PRIu32, said, answer, right);
     check(kept_except(&output, right == LSH_ACCEPTED ? LSH_RECEIPT_BYTES : 0), "%s writes %s", said,
           right == LSH_ACCEPTED ? "outside the receipt" : "to the output or around it");

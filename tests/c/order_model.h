@@ -1,5 +1,6 @@
-/* What the calls on an order have to answer, written from document 01 in the plainest way, byte by byte, over the two block calls alone; and
- * from document 02 (W6), which records are sound and what is refused while a split rewind is unfinished. checks.h comes before it. */
+/* What the calls on an order have to answer, written from document 01 in the plainest way, byte by byte, over the two block calls alone, which
+ * are given the words; and from document 02 (W6), which records are sound and what is refused while a split rewind is unfinished. checks.h
+ * comes before it. */
 #ifndef ORDER_MODEL_H
 #define ORDER_MODEL_H
 
@@ -61,7 +62,7 @@ static lsh_outcome refused(uint32_t number, const lsh_record *r)
     return outcome;
 }
 
-typedef uint32_t block_call(uint64_t w, uint8_t *chain, size_t chain_len, const uint8_t *block, size_t block_len);
+typedef uint32_t block_call(uint64_t engine, uint64_t w, uint8_t *chain, size_t chain_len, const uint8_t *block, size_t block_len);
 
 /* The bytes of a chain, lowest byte of each word first. */
 static void store_chain(uint64_t w, const uint64_t *chain, uint8_t *bytes)
@@ -78,7 +79,7 @@ static void run_block(block_call *call, uint64_t w, uint64_t *chain, const uint8
     uint8_t bytes[LSH_CHAIN_BYTES(64)];
     size_t word = w / 8;
     store_chain(w, chain, bytes);
-    call(w, bytes, 16 * word, block, LSH_BLOCK_BYTES(w));
+    call(LSH_ENGINE_WORDS, w, bytes, 16 * word, block, LSH_BLOCK_BYTES(w));
     memset(chain, 0, 16 * sizeof chain[0]);
     for (size_t i = 0; i < 16 * word; i++) {
         chain[i / word] |= (uint64_t)bytes[i] << 8 * (i % word);

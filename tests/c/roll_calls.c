@@ -35,7 +35,7 @@ static void check_shown(uint64_t w, size_t roll_len, size_t links)
     struct way way = walk(w, buffer(&roll), roll_len);
     check(way.is_roll && way.count == links, "the roll has %zu links, not %zu, w = %" PRIu64, way.count, links, w);
     for (size_t k = 1; k <= way.count; k++) {
-        lsh_outcome reached = lsh_append(lsh_open(w, 8 * w).next, buffer(&lent), k * INTERVAL(w));
+        lsh_outcome reached = lsh_append(engine(), lsh_open(engine(), w, 8 * w).next, buffer(&lent), k * INTERVAL(w));
         uint8_t chain[LSH_CHAIN_BYTES(64)];
         store_chain(w, reached.next.chain, chain);
         check(memcmp(buffer(&roll) + LSH_CHAIN_PLACE(w, way.slots[k]), chain, LSH_CHAIN_BYTES(w)) == 0,

@@ -17,10 +17,10 @@ static struct guarded roll;
 /* ---- calls ---- */
 
 /* The calls once more, as the archive has them: with the address of their answer. */
-void *append_roll_to(void *answer, lsh_record r, const uint8_t *piece, size_t piece_len, uint8_t *roll, size_t roll_len)
+void *append_roll_to(void *answer, uint64_t engine, lsh_record r, const uint8_t *piece, size_t piece_len, uint8_t *roll, size_t roll_len)
     __asm__("lsh_append_roll");
-void *rewind_roll_to(void *answer, lsh_record r, uint64_t keep, const uint8_t *h, size_t h_len, uint8_t *roll, size_t roll_len)
-    __asm__("lsh_rewind_roll");
+void *rewind_roll_to(void *answer, uint64_t engine, lsh_record r, uint64_t keep, const uint8_t *h, size_t h_len, uint8_t *roll,
+                     size_t roll_len) __asm__("lsh_rewind_roll");
 
 /* The roll as it was before the last call, which is in its copy. */
 static const uint8_t *roll_before(void)
@@ -71,12 +71,12 @@ APART static const lsh_outcome *append_roll(const lsh_record *r, size_t from, si
     take_copy(&lent);
     take_copy(&roll);
     lsh_outcome right = right_append_roll(r, piece, piece_len, buffer(&roll), roll_len);
-    lsh_outcome outcome = lsh_append_roll(*r, piece, piece_len, buffer(&roll), roll_len);
+    lsh_outcome outcome = lsh_append_roll(engine(), *r, piece, piece_len, buffer(&roll), roll_len);
     check_outcome(&outcome, &right, said);
     check_appended(r, piece, piece_len, roll_len, right.number, said);
     check_lent(said);
     put_back(&roll);
-    append_roll_to(place_for_answer(&place), *r, piece, piece_len, buffer(&roll), roll_len);
+    append_roll_to(place_for_answer(&place), engine(), *r, piece, piece_len, buffer(&roll), roll_len);
     check_place(&right, said);
     check_appended(r, piece, piece_len, roll_len, right.number, said);
     check_lent(said);
@@ -91,12 +91,12 @@ APART static const lsh_outcome *rewind_roll(const lsh_record *r, uint64_t keep, 
     take_copy(&lent);
     take_copy(&roll);
     lsh_outcome right = right_rewind_roll(r, keep, h, h_len, buffer(&roll), roll_len);
-    lsh_outcome outcome = lsh_rewind_roll(*r, keep, h, h_len, buffer(&roll), roll_len);
+    lsh_outcome outcome = lsh_rewind_roll(engine(), *r, keep, h, h_len, buffer(&roll), roll_len);
     check_outcome(&outcome, &right, said);
     check_rewound(&right, roll_len, said);
     check_lent(said);
     put_back(&roll);
-    rewind_roll_to(place_for_answer(&place), *r, keep, h, h_len, buffer(&roll), roll_len);
+    rewind_roll_to(place_for_answer(&place), engine(), *r, keep, h, h_len, buffer(&roll), roll_len);
     check_place(&right, said);
     check_rewound(&right, roll_len, said);
     check_lent(said);

@@ -29,9 +29,9 @@ static_assert(LARGEST > LSH_ROLL_BYTES(64, LSH_MOST_SLOTS), "the largest roll ca
 
 /* The calls once more, as the archive has them: with the address of their answer. */
 void *begin_to(void *answer, lsh_record r, const uint8_t *bytes, size_t bytes_len) __asm__("lsh_begin");
-void *hand_back_to(void *answer, lsh_record r, const uint8_t *block, size_t block_len) __asm__("lsh_hand_back");
-void *end_to(void *answer, lsh_record r, uint64_t keep) __asm__("lsh_end");
-void *end_roll_to(void *answer, lsh_record r, uint64_t keep, uint8_t *roll, size_t roll_len) __asm__("lsh_end_roll");
+void *hand_back_to(void *answer, uint64_t engine, lsh_record r, const uint8_t *block, size_t block_len) __asm__("lsh_hand_back");
+void *end_to(void *answer, uint64_t engine, lsh_record r, uint64_t keep) __asm__("lsh_end");
+void *end_roll_to(void *answer, uint64_t engine, lsh_record r, uint64_t keep, uint8_t *roll, size_t roll_len) __asm__("lsh_end_roll");
 void *abandon_to(void *answer, lsh_record r) __asm__("lsh_abandon");
 
 /* How far the split rewind is on which a step is tried. */
@@ -62,10 +62,10 @@ APART static const lsh_outcome *hand_back(const lsh_record *r, size_t from, size
     const uint8_t *block = buffer(&lent) + from;
     lsh_outcome right = right_hand_back(r, block, block_len);
     take_copy(&lent);
-    lsh_outcome outcome = lsh_hand_back(*r, block, block_len);
+    lsh_outcome outcome = lsh_hand_back(engine(), *r, block, block_len);
     check_outcome(&outcome, &right, said);
     check_lent(said);
-    hand_back_to(place_for_answer(&place), *r, block, block_len);
+    hand_back_to(place_for_answer(&place), engine(), *r, block, block_len);
     check_place(&right, said);
     check_lent(said);
     return &made;
@@ -76,9 +76,9 @@ APART static const lsh_outcome *end(const lsh_record *r, uint64_t keep)
     char said[200];
     SAY(said, "lsh_end", r, PROGRESS ", keep = %" PRIu64, r->mark, r->blocks, keep);
     lsh_outcome right = right_end(r, keep);
-    lsh_outcome outcome = lsh_end(*r, keep);
+    lsh_outcome outcome = lsh_end(engine(), *r, keep);
     check_outcome(&outcome, &right, said);
-    end_to(place_for_answer(&place), *r, keep);
+    end_to(place_for_answer(&place), engine(), *r, keep);
     check_place(&right, said);
     return &made;
 }
@@ -89,11 +89,11 @@ APART static const lsh_outcome *end_roll(const lsh_record *r, uint64_t keep, siz
     SAY(said, "lsh_end_roll", r, PROGRESS ", keep = %" PRIu64 ", roll of %zu bytes", r->mark, r->blocks, keep, roll_len);
     take_copy(&roll);
     lsh_outcome right = right_end_roll(r, keep, buffer(&roll), roll_len);
-    lsh_outcome outcome = lsh_end_roll(*r, keep, buffer(&roll), roll_len);
+    lsh_outcome outcome = lsh_end_roll(engine(), *r, keep, buffer(&roll), roll_len);
     check_outcome(&outcome, &right, said);
     check_rewound(&right, roll_len, said);
     put_back(&roll);
-    end_roll_to(place_for_answer(&place), *r, keep, buffer(&roll), roll_len);
+    end_roll_to(place_for_answer(&place), engine(), *r, keep, buffer(&roll), roll_len);
     check_place(&right, said);
     check_rewound(&right, roll_len, said);
     return &made;
@@ -140,7 +140,7 @@ static void check_unfinished(const lsh_record *before, const lsh_record *r)
     uint8_t last = random_last_byte(e);
     close_order(r, last, e, LSH_RECEIPT_BYTES);
     uint8_t receipt[LSH_RECEIPT_BYTES];
-    check(lsh_close(*before, last, e, receipt, sizeof receipt) == LSH_ACCEPTED && memcmp(buffer(&output), receipt, sizeof receipt) == 0,
+    check(lsh_close(engine(), *before, last, e, receipt, sizeof receipt) == LSH_ACCEPTED && memcmp(buffer(&output), receipt, sizeof receipt) == 0,
           "the receipt of an order of %" PRIu64 " bytes is another one after %" PRIu64 " blocks", before->total, r->blocks);
 
     check(abandon(r)->number == LSH_ACCEPTED && memcmp(&made.next, before, sizeof *before) == 0,
@@ -159,12 +159,12 @@ APART static void check_as_one_rewind(const lsh_record *before, uint64_t keep, s
     size_t h_len = before->total - from;
     lsh_outcome one;
     if (roll_len == 0) {
-        one = lsh_rewind(*before, keep, h, h_len);
+        one = lsh_rewind(engine(), *before, keep, h, h_len);
     } else {
         static uint8_t after[LARGEST];
         memcpy(after, buffer(&roll), roll_len);
         put_back(&roll);
-        one = lsh_rewind_roll(*before, keep, h, h_len, buffer(&roll), roll_len);
+        one = lsh_rewind_roll(engine(), *before, keep, h, h_len, buffer(&roll), roll_len);
         check(memcmp(buffer(&roll), after, roll_len) == 0, "a split rewind of %zu bytes leaves another roll than one rewind", h_len);
     }
     check(made.number == one.number && made.count == one.count,
@@ -419,7 +419,7 @@ static void try_no_bytes(uint64_t w)
     lsh_outcome begun = lsh_begin(r, anything, 0);
     check_outcome(&begun, &right, "lsh_begin(no bytes)");
     right = refused(LSH_BAD_START, &begun.next);
-    lsh_outcome handed = lsh_hand_back(begun.next, anything, 0);
+    lsh_outcome handed = lsh_hand_back(engine(), begun.next, anything, 0);
     check_outcome(&handed, &right, "lsh_hand_back(no bytes)");
 }
 

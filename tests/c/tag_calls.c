@@ -41,7 +41,7 @@ struct arguments {
 static void hash(uint64_t w, uint64_t n, const uint8_t *bytes, size_t length, uint8_t *digest)
 {
     uint8_t receipt[LSH_RECEIPT_BYTES];
-    check(lsh_whole(w, n, bytes, length, 0, 0, receipt, sizeof receipt) == LSH_ACCEPTED, "lsh_whole refuses %zu bytes", length);
+    check(lsh_whole(LSH_ENGINE_WORDS, w, n, bytes, length, 0, 0, receipt, sizeof receipt) == LSH_ACCEPTED, "lsh_whole refuses %zu bytes", length);
     memcpy(digest, receipt + LSH_DIGEST_PLACE, n / 8);
 }
 
@@ -132,7 +132,8 @@ static uint32_t right_finish_answer(const lsh_record *r, size_t key_len, size_t 
 static void put_right_finish(const lsh_record *r, size_t key_len, uint8_t *right)
 {
     uint8_t receipt[LSH_RECEIPT_BYTES];
-    check(lsh_close(*r, 0, 0, receipt, sizeof receipt) == LSH_ACCEPTED, "lsh_close refuses a record of %" PRIu64 " bytes", r->total);
+    check(lsh_close(LSH_ENGINE_WORDS, *r, 0, 0, receipt, sizeof receipt) == LSH_ACCEPTED, "lsh_close refuses a record of %" PRIu64 " bytes",
+          r->total);
     hash_after_key(r->w, r->n, key_len, OUTER, receipt + LSH_DIGEST_PLACE, r->n / 8, right);
 }
 
@@ -187,7 +188,7 @@ APART static uint32_t make_tag(const struct arguments *given)
     fill(&output);
     take_copy(&output);
     take_copies();
-    uint32_t answer = lsh_tag(given->w, given->n, buffer(&key), given->key_len, buffer(&lent), given->message_len, buffer(&output),
+    uint32_t answer = lsh_tag(engine(), given->w, given->n, buffer(&key), given->key_len, buffer(&lent), given->message_len, buffer(&output),
                               given->output_len);
     check_output(answer, right, given->n, right_tag, said);
     check_copies(said);
@@ -195,7 +196,7 @@ APART static uint32_t make_tag(const struct arguments *given)
 }
 
 /* The call once more, as the archive has it: with the address of its answer. */
-void *start_to(void *answer, uint64_t w, uint64_t n, const uint8_t *key, size_t key_len) __asm__("lsh_tag_start");
+void *start_to(void *answer, uint64_t engine, uint64_t w, uint64_t n, const uint8_t *key, size_t key_len) __asm__("lsh_tag_start");
 
 APART static const lsh_outcome *start(const struct arguments *given)
 {
@@ -203,10 +204,10 @@ APART static const lsh_outcome *start(const struct arguments *given)
     snprintf(said, sizeof said, "lsh_tag_start(w = %" PRIu64 ", n = %" PRIu64 ", key of %zu bytes)", given->w, given->n, given->key_len);
     lsh_outcome right = right_start(given);
     take_copies();
-    lsh_outcome outcome = lsh_tag_start(given->w, given->n, buffer(&key), given->key_len);
+    lsh_outcome outcome = lsh_tag_start(engine(), given->w, given->n, buffer(&key), given->key_len);
     check_outcome(&outcome, &right, said);
     check_copies(said);
-    start_to(place_for_answer(&place), given->w, given->n, buffer(&key), given->key_len);
+    start_to(place_for_answer(&place), engine(), given->w, given->n, buffer(&key), given->key_len);
     check_place(&right, said);
     check_copies(said);
     check(made.count == (made.number == LSH_ACCEPTED), "%s counts %" PRIu64 " blocks", said, made.count);
@@ -226,7 +227,7 @@ APART static uint32_t finish(const lsh_record *r, size_t key_len, size_t output_
     fill(&output);
     take_copy(&output);
     take_copies();
-    uint32_t answer = lsh_tag_finish(*r, buffer(&key), key_len, buffer(&output), output_len);
+    uint32_t answer = lsh_tag_finish(engine(), *r, buffer(&key), key_len, buffer(&output), output_len);
     check_output(answer, right, r->n, right_tag, said);
     check_copies(said);
     check(memcmp(r, &before, sizeof before) == 0, "%s changes the record", said);
@@ -240,8 +241,8 @@ APART static lsh_sameness check_tag(const struct arguments *given)
              given->n, given->key_len, given->message_len, given->tag_len);
     lsh_sameness right = right_check(given);
     take_copies();
-    lsh_sameness answer = lsh_tag_check(given->w, given->n, buffer(&key), given->key_len, buffer(&lent), given->message_len, buffer(&tag),
-                                        given->tag_len);
+    lsh_sameness answer = lsh_tag_check(engine(), given->w, given->n, buffer(&key), given->key_len, buffer(&lent), given->message_len,
+                                        buffer(&tag), given->tag_len);
     check(answer.number == right.number && answer.same == right.same, "%s answers %" PRIu32 " %d, not %" PRIu32 " %d", said, answer.number,
           answer.same, right.number, right.same);
     check_copies(said);
@@ -258,7 +259,7 @@ static void expect_same(const struct arguments *given, bool same)
 
 /* ---- what is tried: tags that are known ---- */
 
-/* Tags of one byte with a key of one byte, made with Crypto++ 8.7. */
+/* Tags of one byte with a key of one byte, made with Crypto++ 8.7. Each engine has to give them. */
 static const struct known {
     uint64_t w, n;
     uint8_t key, message;
@@ -379,10 +380,10 @@ static void cut_in_steps(lsh_record *r, const struct arguments *given, size_t le
     finish_as_tag(r, *given, length);
     while (left > 0 && below(4) != 0) {
         left -= block;
-        *r = lsh_hand_back(*r, buffer(&lent) + left, block).next;
+        *r = lsh_hand_back(engine(), *r, buffer(&lent) + left, block).next;
         finish_as_tag(r, *given, length);
     }
-    *r = lsh_end(*r, 0).next;
+    *r = lsh_end(engine(), *r, 0).next;
     check(r->mark == 0, "the split rewind of a message of %zu bytes is not ended", length);
     finish_as_tag(r, *given, left);
 }
@@ -548,17 +549,17 @@ static void try_no_bytes(uint64_t w)
     uint8_t right[LONGEST_TAG];
     put_right_tag(&given, right);
     fill(&output);
-    check(lsh_tag(w, 8 * w, anything, 0, anything, 0, buffer(&output), w) == LSH_ACCEPTED && memcmp(buffer(&output), right, w) == 0,
+    check(lsh_tag(engine(), w, 8 * w, anything, 0, anything, 0, buffer(&output), w) == LSH_ACCEPTED && memcmp(buffer(&output), right, w) == 0,
           "lsh_tag(no bytes) writes another tag");
     lsh_outcome right_started = right_start(&given);
-    lsh_outcome started = lsh_tag_start(w, 8 * w, anything, 0);
+    lsh_outcome started = lsh_tag_start(engine(), w, 8 * w, anything, 0);
     check_outcome(&started, &right_started, "lsh_tag_start(no bytes)");
     fill(&output);
-    check(lsh_tag_finish(started.next, anything, 0, buffer(&output), w) == LSH_ACCEPTED && memcmp(buffer(&output), right, w) == 0,
+    check(lsh_tag_finish(engine(), started.next, anything, 0, buffer(&output), w) == LSH_ACCEPTED && memcmp(buffer(&output), right, w) == 0,
           "lsh_tag_finish(no bytes) writes another tag");
-    lsh_sameness sameness = lsh_tag_check(w, 8 * w, anything, 0, anything, 0, right, w);
+    lsh_sameness sameness = lsh_tag_check(engine(), w, 8 * w, anything, 0, anything, 0, right, w);
     check(sameness.number == LSH_ACCEPTED && sameness.same, "lsh_tag_check(no bytes) says no");
-    sameness = lsh_tag_check(w, 8 * w, anything, 0, anything, 0, anything, 0);
+    sameness = lsh_tag_check(engine(), w, 8 * w, anything, 0, anything, 0, anything, 0);
     check(sameness.number == LSH_ACCEPTED && !sameness.same, "lsh_tag_check(no tag) says yes");
 }
 
@@ -651,9 +652,13 @@ int main(void)
     fill(&key);
     fill(&lent);
     fill(&tag);
-    for (size_t i = 0; i < COUNT(known_tags); i++) {
-        try_known_tag(&known_tags[i]);
+    for (size_t i = 0; i < COUNT(engines); i++) {
+        only_engine = engines[i];
+        for (size_t k = 0; k < COUNT(known_tags); k++) {
+            try_known_tag(&known_tags[k]);
+        }
     }
+    only_engine = 0;
     for (uint64_t w = 32; w <= 64; w += 32) {
         try_lengths(w);
         try_every_digest_length(w);

@@ -128,7 +128,7 @@ static void write_receipt(uint8_t *receipt)
     uint64_t n = 1 + below(8) * w;
     const uint8_t message[2] = {(uint8_t)below(2), (uint8_t)below(2)};
     size_t message_len = below(sizeof message + 1);
-    check(lsh_whole(w, n, message, message_len, 0, 0, receipt, LSH_RECEIPT_BYTES) == LSH_ACCEPTED, "lsh_whole refuses n = %" PRIu64, n);
+    check(lsh_whole(engine(), w, n, message, message_len, 0, 0, receipt, LSH_RECEIPT_BYTES) == LSH_ACCEPTED, "lsh_whole refuses n = %" PRIu64, n);
     check(is_well_formed(receipt), "lsh_whole writes a malformed receipt, n = %" PRIu64, n);
 }
 

@@ -12,6 +12,7 @@ ghost use Rattle.orders.specs.Append.{appendAccepted, appendCall};
 use limits::LONGEST_BLOCK;
 use orders::Outcome;
 use orders::Record;
+use runs::Engine;
 
 // A chain after whole blocks, how many there were, and the held bytes after them.
 struct Absorbed {
@@ -21,7 +22,7 @@ struct Absorbed {
 }
 
 // The record after the piece.
-pub fn append(r: Record, piece: &[u8]) -> Outcome
+pub fn append(engine: Engine, r: Record, piece: &[u8]) -> Outcome
     ensures { λ o. ⌜ o ≡ appendCall r (now (piece .entry)) ⌝ }
 {
     let a = record::turn(r, record::is_begun(r));
@@ -32,11 +33,11 @@ pub fn append(r: Record, piece: &[u8]) -> Outcome
     if limits::LIMIT as u64 - total < piece.len() as u64 {
         return record::refused(5, r);
     }
-    accepted(r, piece)
+    accepted(engine, r, piece)
 }
 
 // The answer where the tests are passed.
-pub fn accepted(r: Record, piece: &[u8]) -> Outcome
+pub fn accepted(engine: Engine, r: Record, piece: &[u8]) -> Outcome
     requires { ⌜ (sound r ≡ true) × (r .total + length (now piece) ≤ limit) ⌝ }
     ensures { λ o. ⌜ o ≡ appendAccepted r (now (piece .entry)) ⌝ }
 {
@@ -44,21 +45,21 @@ pub fn accepted(r: Record, piece: &[u8]) -> Outcome
     let w = r.w;
     let at = record::held_length(w, total);
     if at == 0 {
-        return append_even(r, piece);
+        return append_even(engine, r, piece);
     }
     if at + piece.len() < runs::block_bytes(w) {
         return append_short(r, piece);
     }
-    append_long(r, piece)
+    append_long(engine, r, piece)
 }
 
 // To a record that holds no bytes.
-fn append_even(mut r: Record, piece: &[u8]) -> Outcome
+fn append_even(engine: Engine, mut r: Record, piece: &[u8]) -> Outcome
     requires { ⌜ (sound r ≡ true) × (r .total + length (now piece) ≤ limit) × (heldLength (r .w) (r .total) ≡ 0) ⌝ }
     ensures { λ o. ⌜ o ≡ appendAccepted r (now (piece .entry)) ⌝ }
 {
     let chain = r.chain;
-    let t = absorb(r.w, chain, piece);
+    let t = absorb(engine, r.w, chain, piece);
     let c = t.chain;
     let h = t.held;
     r.total += piece.len() as u64;
@@ -89,7 +90,7 @@ fn append_short(mut r: Record, piece: &[u8]) -> Outcome
 }
 
 // A piece that fills the block begun: this block is run first, and the blocks after it straight from the piece.
-fn append_long(mut r: Record, piece: &[u8]) -> Outcome
+fn append_long(engine: Engine, mut r: Record, piece: &[u8]) -> Outcome
     requires { ⌜ (sound r ≡ true) × (r .total + length (now piece) ≤ limit) × (blockBytes (sizeOf (r .w)) ≤ heldLength (r .w) (r .total) + length (now piece)) ⌝ }
     ensures { λ o. ⌜ o ≡ appendAccepted r (now (piece .entry)) ⌝ }
 {
@@ -100,9 +101,9 @@ fn append_long(mut r: Record, piece: &[u8]) -> Outcome
     let at = record::held_length(w, r.total);
     let room = size - at;
     let first = runs::with_part(held, at, &piece[..room]);
-    let begun = runs::forward(w, chain, &first[..size]);
+    let begun = runs::forward(engine, w, chain, &first[..size]);
     let filled = begun.chain;
-    let t = absorb(w, filled, &piece[room..]);
+    let t = absorb(engine, w, filled, &piece[room..]);
     let c = t.chain;
     let h = t.held;
     r.total += piece.len() as u64;
@@ -116,13 +117,13 @@ fn append_long(mut r: Record, piece: &[u8]) -> Outcome
 }
 
 // The whole blocks of the piece are run on the chain, and the rest of the piece is held.
-fn absorb(w: u64, chain: [u64; 16], piece: &[u8]) -> Absorbed
+fn absorb(engine: Engine, w: u64, chain: [u64; 16], piece: &[u8]) -> Absorbed
     requires { ⌜ (isWordSize w ≡ true) × Chain (sizeOf w) chain ⌝ }
     ensures { λ t. ⌜ (t .chain ≡ forwards (sizeOf w) (blocksOf (sizeOf w) (now (piece .entry))) chain)
         × (t .count ≡ length (now (piece .entry)) / blockBytes (sizeOf w))
         × (t .held ≡ heldOf (restOf (sizeOf w) (now (piece .entry)))) ⌝ }
 {
-    let run = runs::forward(w, chain, piece);
+    let run = runs::forward(engine, w, chain, piece);
     let c = run.chain;
     let count = run.count;
     let at = count * runs::block_bytes(w);

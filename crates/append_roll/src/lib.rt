@@ -22,6 +22,7 @@ use orders::Outcome;
 use orders::Record;
 use roll::SPACING;
 use roll::Traversal;
+use runs::Engine;
 
 // An order at a checkpoint within a piece: the chain there, how many blocks were run, and what is known of the roll.
 struct Progress {
@@ -31,7 +32,7 @@ struct Progress {
 }
 
 // The record after the piece. Which slot a checkpoint takes is the choice freeSlot, of which FreeChoice says what holds.
-pub fn append_roll(r: Record, piece: &[u8], roll: &mut [u8]) -> Outcome
+pub fn append_roll(engine: Engine, r: Record, piece: &[u8], roll: &mut [u8]) -> Outcome
     ensures { λ o. ⌜ (o ≡ appendRollCall r (now (piece .entry)) (now (roll .entry))) × (now (roll .exit) ≡ appendedRoll r (now (piece .entry)) (now (roll .entry))) × FreeChoice freeSlot ⌝ }
 {
     let y = roll::walk(r.w, roll);
@@ -39,7 +40,7 @@ pub fn append_roll(r: Record, piece: &[u8], roll: &mut [u8]) -> Outcome
     if a != 0 {
         return record::refused(a, r);
     }
-    append_parts(r, piece, roll, y)
+    append_parts(engine, r, piece, roll, y)
 }
 
 // The number of the answer, where y is what is known of the roll.
@@ -62,23 +63,23 @@ fn answer(r: Record, size: usize, y: Traversal) -> u32
 }
 
 // The answer where the tests are passed.
-fn append_parts(r: Record, piece: &[u8], roll: &mut [u8], y: Traversal) -> Outcome
+fn append_parts(engine: Engine, r: Record, piece: &[u8], roll: &mut [u8], y: Traversal) -> Outcome
     requires { ⌜ (appendRollAnswer r (length (now piece)) (now roll) ≡ 0) × (y ≡ traversalOf (sizeOf (r .w)) (now roll)) ⌝ }
     ensures { λ o. ⌜ (o ≡ appendAccepted r (now (piece .entry))) × (now (roll .exit) ≡ appendedRoll r (now (piece .entry)) (now (roll .entry))) ⌝ }
 {
     let first = to_checkpoint(r.w, r.total);
     if piece.len() < first {
-        return append::accepted(r, piece);
+        return append::accepted(engine, r, piece);
     }
     let step = between_checkpoints(r.w);
-    let mut p = first_part(r, &piece[..first], roll, y);
+    let mut p = first_part(engine, r, &piece[..first], roll, y);
     let mut at = first;
     while step <= piece.len() - at {
         let end = at + step;
-        p = next_part(r.w, p, &piece[at..end], roll);
+        p = next_part(engine, r.w, p, &piece[at..end], roll);
         at = end;
     }
-    last_part(r, p, at, &piece[at..])
+    last_part(engine, r, p, at, &piece[at..])
 }
 
 // How many bytes an order of this total has to the next checkpoint.
@@ -98,7 +99,7 @@ fn between_checkpoints(w: u64) -> usize
 }
 
 // The part up to the first checkpoint, which is inserted.
-fn first_part(r: Record, part: &[u8], roll: &mut [u8], y: Traversal) -> Progress
+fn first_part(engine: Engine, r: Record, part: &[u8], roll: &mut [u8], y: Traversal) -> Progress
     requires { ⌜ (sound r ≡ true) × (r .total + length (now part) ≤ limit)
         × (isRoll (sizeOf (r .w)) (now roll) ≡ true) × (y ≡ traversalOf (sizeOf (r .w)) (now roll))
         × (length (links (sizeOf (r .w)) (now roll)) < slotCount (sizeOf (r .w)) (length (now roll))) ⌝ }
@@ -107,7 +108,7 @@ fn first_part(r: Record, part: &[u8], roll: &mut [u8], y: Traversal) -> Progress
         × ((k : ℕ) → now (roll .exit) ≡ inserted (sizeOf (r .w)) (record { number = k; chain = appended r (now (part .entry)) .chain }) (now (roll .entry)))
         × (q .known ≡ traversalOf (sizeOf (r .w)) (now (roll .exit))) ⌝ }
 {
-    let o = append::accepted(r, part);
+    let o = append::accepted(engine, r, part);
     let next = o.next;
     let chain = next.chain;
     let known = roll::insert(r.w, y, roll, chain);
@@ -119,7 +120,7 @@ fn first_part(r: Record, part: &[u8], roll: &mut [u8], y: Traversal) -> Progress
 }
 
 // A part from a checkpoint to the next, which is inserted. Its blocks are run straight from the piece.
-fn next_part(w: u64, p: Progress, part: &[u8], roll: &mut [u8]) -> Progress
+fn next_part(engine: Engine, w: u64, p: Progress, part: &[u8], roll: &mut [u8]) -> Progress
     requires { ⌜ (isWordSize w ≡ true) × Chain (sizeOf w) (p .chain) × (p .count + length (now part) ≤ limit)
         × (isRoll (sizeOf w) (now roll) ≡ true) × (p .known ≡ traversalOf (sizeOf w) (now roll))
         × (length (links (sizeOf w) (now roll)) < slotCount (sizeOf w) (length (now roll))) ⌝ }
@@ -130,7 +131,7 @@ fn next_part(w: u64, p: Progress, part: &[u8], roll: &mut [u8]) -> Progress
 {
     let before = p.chain;
     let known = p.known;
-    let run = runs::forward(w, before, part);
+    let run = runs::forward(engine, w, before, part);
     let chain = run.chain;
     let y = roll::insert(w, known, roll, chain);
     Progress {
@@ -141,7 +142,7 @@ fn next_part(w: u64, p: Progress, part: &[u8], roll: &mut [u8]) -> Progress
 }
 
 // The last part, from a checkpoint at the place at of the piece. It reaches no other.
-fn last_part(mut r: Record, p: Progress, at: usize, part: &[u8]) -> Outcome
+fn last_part(engine: Engine, mut r: Record, p: Progress, at: usize, part: &[u8]) -> Outcome
     requires { ⌜ (r .total + at + length (now part) ≤ limit) × (p .count ≤ limit)
         × ((order : Record) → order ≡ record { w = r .w; n = r .n; total = r .total + at; chain = p .chain; held = heldOf []; split = r .split } → sound order ≡ true) ⌝ }
     ensures { λ o. ⌜ ((order : Record) → order ≡ record { w = r .w; n = r .n; total = r .total + at; chain = p .chain; held = heldOf []; split = r .split }
@@ -152,7 +153,7 @@ fn last_part(mut r: Record, p: Progress, at: usize, part: &[u8]) -> Outcome
     r.total += at as u64;
     r.chain = chain;
     r.held = held;
-    let mut o = append::accepted(r, part);
+    let mut o = append::accepted(engine, r, part);
     o.count = p.count + o.count;
     o
 }

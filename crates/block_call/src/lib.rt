@@ -3,28 +3,29 @@ ghost use mathlib.Core.Path.{_≡_};
 ghost use mathlib.Core.Bool.{not, _&&_, cond};
 ghost use lib.ListN.{length};
 ghost use Rattle.blocks.specs.BlockCall.{blockAnswer, forwardBytes, backwardBytes};
+use runs::Engine;
 
 // Runs the block forward, if the answer is 0.
-pub fn forward(w: u64, chain: &mut [u8], block: &[u8]) -> u32
+pub fn forward(engine: Engine, w: u64, chain: &mut [u8], block: &[u8]) -> u32
     ensures { λ r. ⌜ (r ≡ blockAnswer w (length (now (chain .entry))) (length (now (block .entry)))) × (now (chain .exit) ≡ forwardBytes w (now (chain .entry)) (now (block .entry))) ⌝ }
 {
     let a = answer(w, chain.len(), block.len());
     if a != 0 {
         return a;
     }
-    runs::forward_bytes(w, chain, block);
+    runs::forward_bytes(engine, w, chain, block);
     0
 }
 
 // Runs the block backward, if the answer is 0.
-pub fn backward(w: u64, chain: &mut [u8], block: &[u8]) -> u32
+pub fn backward(engine: Engine, w: u64, chain: &mut [u8], block: &[u8]) -> u32
     ensures { λ r. ⌜ (r ≡ blockAnswer w (length (now (chain .entry))) (length (now (block .entry)))) × (now (chain .exit) ≡ backwardBytes w (now (chain .entry)) (now (block .entry))) ⌝ }
 {
     let a = answer(w, chain.len(), block.len());
     if a != 0 {
         return a;
     }
-    runs::backward_bytes(w, chain, block);
+    runs::backward_bytes(engine, w, chain, block);
     0
 }
 

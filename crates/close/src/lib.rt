@@ -11,10 +11,11 @@ ghost use Rattle.orders.specs.Record.{sound};
 ghost use Rattle.receipts.specs.Close.{closeAnswer, closedDigest, closeOutput};
 use limits::LONGEST_BLOCK;
 use orders::Record;
+use runs::Engine;
 
 // Writes the receipt of the record's bytes and the top e bits of the last byte, if the answer is 0. The record is not changed, so
 // more can be appended to it.
-pub fn close(r: Record, last: u8, e: u64, output: &mut [u8]) -> u32
+pub fn close(engine: Engine, r: Record, last: u8, e: u64, output: &mut [u8]) -> u32
     ensures { λ a. ⌜ (a ≡ closeAnswer r last e (length (now (output .entry)))) × (now (output .exit) ≡ closeOutput r last e (now (output .entry))) ⌝ }
 {
     let a = answer(r, last, e, output.len());
@@ -24,19 +25,19 @@ pub fn close(r: Record, last: u8, e: u64, output: &mut [u8]) -> u32
     let w = r.w;
     let n = r.n;
     let bits = 8 * r.total + e;
-    let t = final_chain(r, last, e as u32);
+    let t = final_chain(engine, r, last, e as u32);
     finalization::write_receipt(w, n, t, bits, output);
     0
 }
 
 // The bytes of the digest that the record gives without extra bits, and others after them.
-pub fn digest_bytes(r: Record) -> [u8; LONGEST_BLOCK]
+pub fn digest_bytes(engine: Engine, r: Record) -> [u8; LONGEST_BLOCK]
     requires { ⌜ sound r ≡ true ⌝ }
     ensures { λ d. ⌜ take ((r .n + 7) / 8) d ≡ bytesOfBits (closedDigest r 0 0) ⌝ }
 {
     let w = r.w;
     let n = r.n;
-    let t = final_chain(r, 0, 0);
+    let t = final_chain(engine, r, 0, 0);
     finalization::digest_bytes(w, n, t)
 }
 
@@ -51,7 +52,7 @@ fn answer(r: Record, last: u8, e: u64, size: usize) -> u32
 }
 
 // The chain after the last block, which is the bytes held and the top e bits of the last byte, padded.
-fn final_chain(r: Record, last: u8, e: u32) -> [u64; 16]
+fn final_chain(engine: Engine, r: Record, last: u8, e: u32) -> [u64; 16]
     requires { ⌜ (sound r ≡ true) × (e ≤ 7) × (last % 2 ^ (8 - e) ≡ 0) ⌝ }
     ensures { λ t. ⌜ Chain (sizeOf (r .w)) t × (digest (sizeOf (r .w)) (r .n) t ≡ closedDigest r last e) ⌝ }
 {
@@ -61,5 +62,5 @@ fn final_chain(r: Record, last: u8, e: u32) -> [u64; 16]
     let held = r.held;
     let pad = finalization::pad_byte(last, e);
     let at = record::held_length(w, total);
-    finalization::last_chain(w, chain, &held[..at], pad)
+    finalization::last_chain(engine, w, chain, &held[..at], pad)
 }

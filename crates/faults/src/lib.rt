@@ -2,6 +2,7 @@
 ghost use Prim.Native.Nat.{_≤_};
 ghost use lib.ListN.{length};
 use libc::STDERR_FILENO;
+use script::ENGINES;
 use script::OUTPUT;
 use script::ROLL;
 
@@ -33,11 +34,13 @@ const HALF: u64 = 10;
 
 const NO_BYTE: u64 = 11;
 
+const NO_ENGINE: u64 = 12;
+
 // The line has not as many words as it takes.
-const COUNT: u64 = 12;
+const COUNT: u64 = 13;
 
 // Nothing is wrong.
-const NONE: u64 = 13;
+const NONE: u64 = 14;
 
 // A fault, and the number of the word that has it, or of the words that the line should have.
 struct Fault {
@@ -140,17 +143,18 @@ fn of_words(line: &[u8], form: &[u8]) -> Fault {
 // What is wrong with a word that a form has a letter for.
 fn of_word(letter: u8, word: &[u8]) -> u64 {
     match letter {
-        b'n' => of_number(word, u64::MAX, LARGE),
-        b's' => of_number(word, OUTPUT, LARGE_OUTPUT),
-        b'r' => of_number(word, ROLL as u64, LARGE_ROLL),
+        b'n' => of_number(word, 0, u64::MAX, LARGE),
+        b's' => of_number(word, 0, OUTPUT, LARGE_OUTPUT),
+        b'r' => of_number(word, 0, ROLL as u64, LARGE_ROLL),
+        b'e' => of_number(word, 1, ENGINES, NO_ENGINE),
         b'l' => of_last(word),
         b'c' => of_roll(word),
         _ => of_bytes(word),
     }
 }
 
-// A number, at most so large.
-fn of_number(word: &[u8], most: u64, large: u64) -> u64 {
+// A number from low to high; why is what is wrong with any other.
+fn of_number(word: &[u8], low: u64, high: u64, why: u64) -> u64 {
     if bytes_from_to(word, b'0', b'9') != word.len() {
         return NO_NUMBER;
     }
@@ -158,8 +162,8 @@ fn of_number(word: &[u8], most: u64, large: u64) -> u64 {
     if !v.is {
         return LARGE;
     }
-    if most < v.value {
-        return large;
+    if (v.value < low) | (high < v.value) {
+        return why;
     }
     NONE
 }
@@ -243,7 +247,8 @@ fn say_why(why: u64) {
           there is an upper-case digit: hexadecimal digits are lower-case\n\
           bytes have hexadecimal digits only, and are a dash if there are none\n\
           a byte has two digits, and here is one too few\n\
-          LAST is one byte\n";
+          LAST is one byte\n\
+          an engine is 1 or 2\n";
     tell(line_of(sentences, why));
     tell(b"\n");
 }

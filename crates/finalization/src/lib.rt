@@ -15,6 +15,7 @@ ghost use Rattle.limits.specs.Limits.{longestBlock, longestDigest};
 ghost use Rattle.receipts.specs.Receipt.{receiptBytes, receipt};
 ghost use Rattle.receipts.specs.Ending.{endAnswer};
 use limits::LONGEST_BLOCK;
+use runs::Engine;
 
 // Bytes of a receipt.
 pub const RECEIPT: usize = 76;
@@ -64,24 +65,24 @@ pub fn pad_byte(last: u8, e: u32) -> u8
 }
 
 // The chain after the blocks of a message that is padded from the byte pad on.
-pub fn message_chain(w: u64, t: [u64; 16], message: &[u8], pad: u8) -> [u64; 16]
+pub fn message_chain(engine: Engine, w: u64, t: [u64; 16], message: &[u8], pad: u8) -> [u64; 16]
     requires { ⌜ (isWordSize w ≡ true) × Chain (sizeOf w) t ⌝ }
     ensures { λ r. ⌜ r ≡ forwards (sizeOf w) (blocksOf (sizeOf w) (now (message .entry) ++ pad ∷ replicate (blockBytes (sizeOf w) - 1 - length (now (message .entry)) % blockBytes (sizeOf w)) 0)) t ⌝ }
 {
-    let run = runs::forward(w, t, message);
+    let run = runs::forward(engine, w, t, message);
     let c = run.chain;
     let whole = run.count * runs::block_bytes(w);
-    last_chain(w, c, &message[whole..], pad)
+    last_chain(engine, w, c, &message[whole..], pad)
 }
 
 // The chain after the last block, of the bytes that are left over and the padding.
-pub fn last_chain(w: u64, t: [u64; 16], rest: &[u8], pad: u8) -> [u64; 16]
+pub fn last_chain(engine: Engine, w: u64, t: [u64; 16], rest: &[u8], pad: u8) -> [u64; 16]
     requires { ⌜ (isWordSize w ≡ true) × Chain (sizeOf w) t × (length (now rest) < blockBytes (sizeOf w)) ⌝ }
     ensures { λ r. ⌜ r ≡ forwards (sizeOf w) (blocksOf (sizeOf w) (now (rest .entry) ++ pad ∷ replicate (blockBytes (sizeOf w) - 1 - length (now (rest .entry))) 0)) t ⌝ }
 {
     let size = runs::block_bytes(w);
     let block = last_block(rest, pad);
-    let run = runs::forward(w, t, &block[..size]);
+    let run = runs::forward(engine, w, t, &block[..size]);
     run.chain
 }
 

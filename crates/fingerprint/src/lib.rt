@@ -7,6 +7,7 @@ use finalization::DIGEST;
 use finalization::LENGTH;
 use finalization::RECEIPT;
 use orders::Record;
+use runs::Engine;
 
 // The bytes of the longest digest, which is also the longest tag.
 const LONGEST: usize = LENGTH - DIGEST;
@@ -35,24 +36,30 @@ pub struct Kind {
 pub fn of_file(k: Kind, key: &[u8], name: &[u8]) -> Fingerprint
     ensures { λ r. ⌜ (r .from ≤ r .to) × (r .to ≤ receiptBytes) ⌝ }
 {
-    let opened = started(k.w, k.n, key);
-    let t = reading::read_file(name, k.input_taken, opened);
+    let engine = runs::faster_engine(k.w);
+    let opened = started(engine, k.w, k.n, key);
+    let t = reading::read_file(engine, name, k.input_taken, opened);
     if !t.good {
         return none();
     }
     if key.len() != 0 {
-        return tagged(t.record, bits_since(opened.total, t.record.total), key);
+        return tagged(
+            engine,
+            t.record,
+            bits_since(opened.total, t.record.total),
+            key,
+        );
     }
-    of_record(t.record, k.digest)
+    of_record(engine, t.record, k.digest)
 }
 
 // The record to which a file is appended.
-fn started(w: u64, n: u64, key: &[u8]) -> Record {
+fn started(engine: Engine, w: u64, n: u64, key: &[u8]) -> Record {
     if key.len() == 0 {
-        let o = record::open(w, n);
+        let o = record::open(engine, w, n);
         return o.next;
     }
-    let o = tag::start(w, n, key);
+    let o = tag::start(engine, w, n, key);
     o.next
 }
 
@@ -69,11 +76,11 @@ fn none() -> Fingerprint
 }
 
 // The receipt of a record, or its digest alone.
-fn of_record(r: Record, digest_alone: bool) -> Fingerprint
+fn of_record(engine: Engine, r: Record, digest_alone: bool) -> Fingerprint
     ensures { λ r. ⌜ (r .from ≤ r .to) × (r .to ≤ receiptBytes) ⌝ }
 {
     let mut receipt = [0u8; RECEIPT];
-    close::close(r, 0, 0, &mut receipt);
+    close::close(engine, r, 0, 0, &mut receipt);
     if digest_alone {
         return shown(
             receipt,
@@ -85,11 +92,11 @@ fn of_record(r: Record, digest_alone: bool) -> Fingerprint
     shown(receipt, 0, RECEIPT, same::bit_length_of(&receipt))
 }
 
-fn tagged(r: Record, bits: u64, key: &[u8]) -> Fingerprint
+fn tagged(engine: Engine, r: Record, bits: u64, key: &[u8]) -> Fingerprint
     ensures { λ r. ⌜ (r .from ≤ r .to) × (r .to ≤ receiptBytes) ⌝ }
 {
     let mut tag = [0u8; RECEIPT];
-    tag::finish(r, key, &mut tag);
+    tag::finish(engine, r, key, &mut tag);
     shown(tag, 0, digest_bytes(r.n), bits)
 }
 

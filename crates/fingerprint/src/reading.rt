@@ -2,6 +2,7 @@
 use orders::Record;
 use program::files;
 use program::messages;
+use runs::Engine;
 
 // The record of a file's bytes, if they could be read.
 pub struct Reading {
@@ -12,12 +13,12 @@ pub struct Reading {
 }
 
 // The record of a file's bytes.
-pub fn read_file(name: &[u8], input_taken: bool, opened: Record) -> Reading {
+pub fn read_file(engine: Engine, name: &[u8], input_taken: bool, opened: Record) -> Reading {
     let fd = open_file(name, input_taken);
     if fd < 0 {
         return so_far(false, false, opened);
     }
-    let t = read_all(fd, name, opened);
+    let t = read_all(engine, fd, name, opened);
     files::close(name, fd);
     t
 }
@@ -36,34 +37,34 @@ pub fn open_file(name: &[u8], input_taken: bool) -> i32 {
 }
 
 // A proved loop has to end, and nothing says that a file does, so the reads are counted down from a number that no run uses up.
-fn read_all(fd: i32, name: &[u8], opened: Record) -> Reading {
+fn read_all(engine: Engine, fd: i32, name: &[u8], opened: Record) -> Reading {
     let mut chunk = io::large_buffer();
     let mut t = so_far(true, true, opened);
     let mut reads = u64::MAX;
     while reads > 0 && t.more {
-        t = read_some(fd, name, t.record, &mut chunk);
+        t = read_some(engine, fd, name, t.record, &mut chunk);
         reads -= 1;
     }
     t
 }
 
 // Reads once, and appends what came.
-fn read_some(fd: i32, name: &[u8], r: Record, chunk: &mut [u8]) -> Reading {
+fn read_some(engine: Engine, fd: i32, name: &[u8], r: Record, chunk: &mut [u8]) -> Reading {
     let got = libc::read(fd, chunk);
     if got < 0 {
         messages::fail(b"receipt", name);
         return so_far(false, false, r);
     }
     let n = io::count(got, chunk);
-    append(name, r, &chunk[..n])
+    append(engine, name, r, &chunk[..n])
 }
 
 // Appends the bytes of a read, which had none if the file has no more.
-fn append(name: &[u8], r: Record, piece: &[u8]) -> Reading {
+fn append(engine: Engine, name: &[u8], r: Record, piece: &[u8]) -> Reading {
     if piece.len() == 0 {
         return so_far(true, false, r);
     }
-    let o = append::append(r, piece);
+    let o = append::append(engine, r, piece);
     if o.number != 0 {
         messages::say(
             b"receipt",

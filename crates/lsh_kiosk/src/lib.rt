@@ -1,5 +1,5 @@
 // The calls for C. Each is declared, with its answers, in include/lsh_kiosk.h, and is one line over the call that it carries the
-// equation of. Records and answers pass by value.
+// equation of. Records and answers pass by value, and the engine as a number, which only runs::engine_of reads.
 ghost use mathlib.Core.Path.{_≡_};
 ghost use lib.ListN.{length};
 ghost use Rattle.blocks.specs.BlockCall.{blockAnswer, forwardBytes, backwardBytes};
@@ -29,38 +29,38 @@ use receipts::Counts;
 use receipts::Sameness;
 
 #[no_mangle]
-pub extern "C" fn lsh_block_forward(w: u64, chain: &mut [u8], block: &[u8]) -> u32
+pub extern "C" fn lsh_block_forward(engine: u64, w: u64, chain: &mut [u8], block: &[u8]) -> u32
     ensures { λ r. ⌜ (r ≡ blockAnswer w (length (now (chain .entry))) (length (now (block .entry)))) × (now (chain .exit) ≡ forwardBytes w (now (chain .entry)) (now (block .entry))) ⌝ }
 {
-    block_call::forward(w, chain, block)
+    block_call::forward(runs::engine_of(engine), w, chain, block)
 }
 
 #[no_mangle]
-pub extern "C" fn lsh_block_backward(w: u64, chain: &mut [u8], block: &[u8]) -> u32
+pub extern "C" fn lsh_block_backward(engine: u64, w: u64, chain: &mut [u8], block: &[u8]) -> u32
     ensures { λ r. ⌜ (r ≡ blockAnswer w (length (now (chain .entry))) (length (now (block .entry)))) × (now (chain .exit) ≡ backwardBytes w (now (chain .entry)) (now (block .entry))) ⌝ }
 {
-    block_call::backward(w, chain, block)
+    block_call::backward(runs::engine_of(engine), w, chain, block)
 }
 
 #[no_mangle]
-pub extern "C" fn lsh_open(w: u64, n: u64) -> Outcome
+pub extern "C" fn lsh_open(engine: u64, w: u64, n: u64) -> Outcome
     ensures { λ o. ⌜ o ≡ openCall w n ⌝ }
 {
-    record::open(w, n)
+    record::open(runs::engine_of(engine), w, n)
 }
 
 #[no_mangle]
-pub extern "C" fn lsh_append(r: Record, piece: &[u8]) -> Outcome
+pub extern "C" fn lsh_append(engine: u64, r: Record, piece: &[u8]) -> Outcome
     ensures { λ o. ⌜ o ≡ appendCall r (now (piece .entry)) ⌝ }
 {
-    append::append(r, piece)
+    append::append(runs::engine_of(engine), r, piece)
 }
 
 #[no_mangle]
-pub extern "C" fn lsh_rewind(r: Record, keep: u64, h: &[u8]) -> Outcome
+pub extern "C" fn lsh_rewind(engine: u64, r: Record, keep: u64, h: &[u8]) -> Outcome
     ensures { λ o. ⌜ o ≡ rewindCall r keep (now (h .entry)) ⌝ }
 {
-    rewind::rewind(r, keep, h)
+    rewind::rewind(runs::engine_of(engine), r, keep, h)
 }
 
 #[no_mangle]
@@ -71,17 +71,17 @@ pub extern "C" fn lsh_begin(r: Record, bytes: &[u8]) -> Outcome
 }
 
 #[no_mangle]
-pub extern "C" fn lsh_hand_back(r: Record, block: &[u8]) -> Outcome
+pub extern "C" fn lsh_hand_back(engine: u64, r: Record, block: &[u8]) -> Outcome
     ensures { λ o. ⌜ o ≡ handBackCall r (now (block .entry)) ⌝ }
 {
-    split_rewind::hand_back(r, block)
+    split_rewind::hand_back(runs::engine_of(engine), r, block)
 }
 
 #[no_mangle]
-pub extern "C" fn lsh_end(r: Record, keep: u64) -> Outcome
+pub extern "C" fn lsh_end(engine: u64, r: Record, keep: u64) -> Outcome
     ensures { λ o. ⌜ o ≡ endCall r keep ⌝ }
 {
-    split_rewind::end(r, keep)
+    split_rewind::end(runs::engine_of(engine), r, keep)
 }
 
 #[no_mangle]
@@ -92,35 +92,42 @@ pub extern "C" fn lsh_abandon(r: Record) -> Outcome
 }
 
 #[no_mangle]
-pub extern "C" fn lsh_append_roll(r: Record, piece: &[u8], roll: &mut [u8]) -> Outcome
+pub extern "C" fn lsh_append_roll(engine: u64, r: Record, piece: &[u8], roll: &mut [u8]) -> Outcome
     ensures { λ o. ⌜ (o ≡ appendRollCall r (now (piece .entry)) (now (roll .entry))) × (now (roll .exit) ≡ appendedRoll r (now (piece .entry)) (now (roll .entry))) × FreeChoice freeSlot ⌝ }
 {
-    append_roll::append_roll(r, piece, roll)
+    append_roll::append_roll(runs::engine_of(engine), r, piece, roll)
 }
 
 #[no_mangle]
-pub extern "C" fn lsh_rewind_roll(r: Record, keep: u64, h: &[u8], roll: &mut [u8]) -> Outcome
+pub extern "C" fn lsh_rewind_roll(
+    engine: u64,
+    r: Record,
+    keep: u64,
+    h: &[u8],
+    roll: &mut [u8],
+) -> Outcome
     ensures { λ o. ⌜ (o ≡ rewindRollCall r keep (now (h .entry)) (now (roll .entry))) × (now (roll .exit) ≡ rewoundRoll r keep (now (h .entry)) (now (roll .entry))) ⌝ }
 {
-    rewind_roll::rewind_roll(r, keep, h, roll)
+    rewind_roll::rewind_roll(runs::engine_of(engine), r, keep, h, roll)
 }
 
 #[no_mangle]
-pub extern "C" fn lsh_end_roll(r: Record, keep: u64, roll: &mut [u8]) -> Outcome
+pub extern "C" fn lsh_end_roll(engine: u64, r: Record, keep: u64, roll: &mut [u8]) -> Outcome
     ensures { λ o. ⌜ (o ≡ endRollCall r keep (now (roll .entry))) × (now (roll .exit) ≡ endedRoll r keep (now (roll .entry))) ⌝ }
 {
-    rewind_roll::end_roll(r, keep, roll)
+    rewind_roll::end_roll(runs::engine_of(engine), r, keep, roll)
 }
 
 #[no_mangle]
-pub extern "C" fn lsh_close(r: Record, last: u8, e: u64, output: &mut [u8]) -> u32
+pub extern "C" fn lsh_close(engine: u64, r: Record, last: u8, e: u64, output: &mut [u8]) -> u32
     ensures { λ a. ⌜ (a ≡ closeAnswer r last e (length (now (output .entry)))) × (now (output .exit) ≡ closeOutput r last e (now (output .entry))) ⌝ }
 {
-    close::close(r, last, e, output)
+    close::close(runs::engine_of(engine), r, last, e, output)
 }
 
 #[no_mangle]
 pub extern "C" fn lsh_whole(
+    engine: u64,
     w: u64,
     n: u64,
     message: &[u8],
@@ -130,7 +137,7 @@ pub extern "C" fn lsh_whole(
 ) -> u32
     ensures { λ r. ⌜ (r ≡ wholeAnswer w n (length (now (message .entry))) last e (length (now (output .entry)))) × (now (output .exit) ≡ wholeOutput w n (now (message .entry)) last e (now (output .entry))) ⌝ }
 {
-    whole::whole(w, n, message, last, e, output)
+    whole::whole(runs::engine_of(engine), w, n, message, last, e, output)
 }
 
 #[no_mangle]
@@ -148,29 +155,43 @@ pub extern "C" fn lsh_tally(list: &[u8]) -> Counts
 }
 
 #[no_mangle]
-pub extern "C" fn lsh_tag(w: u64, n: u64, key: &[u8], message: &[u8], output: &mut [u8]) -> u32
+pub extern "C" fn lsh_tag(
+    engine: u64,
+    w: u64,
+    n: u64,
+    key: &[u8],
+    message: &[u8],
+    output: &mut [u8],
+) -> u32
     ensures { λ r. ⌜ (r ≡ tagAnswer w n (length (now (key .entry))) (length (now (message .entry))) (length (now (output .entry)))) × (now (output .exit) ≡ tagOutput w n (now (key .entry)) (now (message .entry)) (now (output .entry))) ⌝ }
 {
-    tag::tag(w, n, key, message, output)
+    tag::tag(runs::engine_of(engine), w, n, key, message, output)
 }
 
 #[no_mangle]
-pub extern "C" fn lsh_tag_start(w: u64, n: u64, key: &[u8]) -> Outcome
+pub extern "C" fn lsh_tag_start(engine: u64, w: u64, n: u64, key: &[u8]) -> Outcome
     ensures { λ o. ⌜ o ≡ startCall w n (now (key .entry)) ⌝ }
 {
-    tag::start(w, n, key)
+    tag::start(runs::engine_of(engine), w, n, key)
 }
 
 #[no_mangle]
-pub extern "C" fn lsh_tag_finish(r: Record, key: &[u8], output: &mut [u8]) -> u32
+pub extern "C" fn lsh_tag_finish(engine: u64, r: Record, key: &[u8], output: &mut [u8]) -> u32
     ensures { λ a. ⌜ (a ≡ finishAnswer r (length (now (key .entry))) (length (now (output .entry)))) × (now (output .exit) ≡ finishOutput r (now (key .entry)) (now (output .entry))) ⌝ }
 {
-    tag::finish(r, key, output)
+    tag::finish(runs::engine_of(engine), r, key, output)
 }
 
 #[no_mangle]
-pub extern "C" fn lsh_tag_check(w: u64, n: u64, key: &[u8], message: &[u8], tag: &[u8]) -> Sameness
+pub extern "C" fn lsh_tag_check(
+    engine: u64,
+    w: u64,
+    n: u64,
+    key: &[u8],
+    message: &[u8],
+    tag: &[u8],
+) -> Sameness
     ensures { λ r. ⌜ r ≡ checkCall w n (now (key .entry)) (now (message .entry)) (now (tag .entry)) ⌝ }
 {
-    tag::check(w, n, key, message, tag)
+    tag::check(runs::engine_of(engine), w, n, key, message, tag)
 }

@@ -13,9 +13,10 @@ use limits::LONGEST_BLOCK;
 use orders::Outcome;
 use orders::Record;
 use orders::Split;
+use runs::Engine;
 
 // The record of a new order.
-pub fn open(w: u64, n: u64) -> Outcome
+pub fn open(engine: Engine, w: u64, n: u64) -> Outcome
     ensures { λ o. ⌜ o ≡ openCall w n ⌝ }
 {
     if !runs::is_word_size(w) {
@@ -24,7 +25,7 @@ pub fn open(w: u64, n: u64) -> Outcome
     if !runs::is_digest_length(w, n) {
         return refused(2, no_record());
     }
-    let next = opened(w, n);
+    let next = opened(engine, w, n);
     Outcome {
         number: 0,
         count: 0,
@@ -33,11 +34,11 @@ pub fn open(w: u64, n: u64) -> Outcome
 }
 
 // The record of an order without bytes.
-pub fn opened(w: u64, n: u64) -> Record
+pub fn opened(engine: Engine, w: u64, n: u64) -> Record
     requires { ⌜ (isWordSize w ≡ true) × (isDigestLength w n ≡ true) ⌝ }
     ensures { λ r. ⌜ r ≡ opened w n ⌝ }
 {
-    let c = runs::opening(w, n);
+    let c = runs::opening(engine, w, n);
     let h = runs::zero_bytes();
     let s = not_begun();
     Record {

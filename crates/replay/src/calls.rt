@@ -22,13 +22,19 @@ pub fn answer(n: usize, buffer: &[u8], before: State, given: &mut [u8], lent: &m
     let w = read(line, given, lent);
     let kind = kind(n, line, w);
     let v = w.values;
-    let s = rolls::resized(kind, v, before);
+    let s = ready(kind, v, before);
     let p = rolls::lent_part(kind, w.lent, s.roll, lent);
     let from = p.from;
     let to = p.to;
     let mut c = in_file(kind, v, s, given, &mut lent[from..to]);
     c.roll = s.roll;
+    c.engine = s.engine;
     c
+}
+
+// The state in which a line of a kind is answered: what the line sets of it is already set.
+fn ready(kind: u64, v: [u64; WORDS], before: State) -> State {
+    records::with_engine(kind, v, rolls::resized(kind, v, before))
 }
 
 fn read(line: &[u8], given: &mut [u8], lent: &mut [u8]) -> Words {
@@ -63,7 +69,7 @@ pub fn find(line: &[u8], form: &mut [u8]) -> Row
           close 20 lns whole 21 nnblns forward 22 nob backward 23 nob tag 24 nnbbs tagfinish 25 bs \
           roll 30 r rollset 31 c showroll 32 - appendroll 33 b rewindroll 34 nb endroll 35 n \
           same 40 bb tally 41 b tagcheck 42 nnbbb \
-          record 50 - set 51 nnnbbnbbn";
+          record 50 - set 51 nnnbbnbbn engine 52 e";
     let place = script::place(table, script::word(line, 0));
     let kind = script::read_number(script::word(table, std::num::wrapping_add_usize(place, 1)));
     let letters = script::word(table, std::num::wrapping_add_usize(place, 2));

@@ -5,6 +5,7 @@ use crate::reply::Reply;
 use crate::words;
 use crate::words::WORDS;
 use receipts::Sameness;
+use runs::Engine;
 
 // The first digit of the kinds of these lines in the table of calls.rt, and the kinds.
 pub const FILE: u64 = 4;
@@ -25,16 +26,17 @@ pub fn answer(kind: u64, v: [u64; WORDS], s: State, given: &[u8]) -> Reply {
 
 // A yes or a no.
 fn truth(kind: u64, v: [u64; WORDS], s: State, given: &[u8]) -> Reply {
-    let t = call(kind, v, given);
+    let t = call(runs::engine_of(s.engine), kind, v, given);
     reply::truth(t.number, t.same, s.record)
 }
 
-fn call(kind: u64, v: [u64; WORDS], given: &[u8]) -> Sameness {
+fn call(engine: Engine, kind: u64, v: [u64; WORDS], given: &[u8]) -> Sameness {
     match kind {
         // same BYTES BYTES
         SAME => same::same(words::part(given, 0, v[0]), words::part(given, v[0], v[1])),
         // tagcheck W N KEY MESSAGE TAG
         TAGCHECK => tag::check(
+            engine,
             v[0],
             v[1],
             words::part(given, 0, v[2]),

@@ -34,11 +34,16 @@ const LENT_BYTES: usize = BYTES + ROLL;
 // Room for a line, and behind its name for what it prints.
 const ROOM: usize = 2 * LINE + 1024;
 
+// The number of the engine before a line chooses one.
+const FIRST_ENGINE: u64 = 1;
+
 // What calls are made on, kept from line to line.
 struct State {
     record: Record,
     // How many bytes the roll has.
     roll: u64,
+    // The number of the engine that runs the blocks.
+    engine: u64,
 }
 
 // What is kept between lines.
@@ -144,14 +149,14 @@ fn replay(fd: i32, chunk: &mut [u8], line: &mut [u8], given: &mut [u8], lent: &m
 
 // The record is all zeros at first, as a refused Open gives it.
 fn start() -> Kept {
-    let o = record::open(0, 0);
-    after(o.next, 0, 0, 0, true)
+    after(record::no_record(), 0, FIRST_ENGINE, 0, 0, true)
 }
 
-fn after(r: Record, roll: u64, lines: u64, faults: u64, on: bool) -> Kept {
+fn after(r: Record, roll: u64, engine: u64, lines: u64, faults: u64, on: bool) -> Kept {
     let s = State {
         record: r,
         roll: roll,
+        engine: engine,
     };
     Kept {
         state: s,
@@ -171,7 +176,7 @@ fn answer(k: Kept, p: Place, line: &mut [u8], given: &mut [u8], lent: &mut [u8])
     let number = counted(k.lines, p.ended);
     let faults = explained(k.faults, number, c.what, n, line);
     let printed = reply::print(n, line, number, c, lent);
-    after(next, c.roll, number, faults, printed)
+    after(next, c.roll, c.engine, number, faults, printed)
 }
 
 // How many lines were no call with this one, of n bytes; why it is none is said.

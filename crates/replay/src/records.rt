@@ -1,4 +1,4 @@
-// The lines that show the record and set it.
+// The lines that show and set what is kept: the record, and the engine.
 use crate::State;
 use crate::reply;
 use crate::reply::Reply;
@@ -16,11 +16,23 @@ const RECORD: u64 = 50;
 
 const SET: u64 = 51;
 
+const ENGINE: u64 = 52;
+
+// The state in which a line of a kind is answered: of engine it already has the engine that the line says.
+pub fn with_engine(kind: u64, v: [u64; WORDS], mut s: State) -> State {
+    if kind == ENGINE {
+        s.engine = v[0];
+    }
+    s
+}
+
 // Answers a line of a kind.
 pub fn answer(kind: u64, v: [u64; WORDS], s: State, given: &[u8]) -> Reply {
     match kind {
         RECORD => reply::record(s.record),
         SET => set(v, s, given),
+        // engine K
+        ENGINE => reply::plain(reply::NAME, s.record),
         _ => reply::plain(reply::NOT_A_CALL, s.record),
     }
 }

@@ -45,6 +45,8 @@ pub struct Reply {
     pub next: Record,
     // How many bytes the roll has after the line.
     pub roll: u64,
+    // The number of the engine after the line.
+    pub engine: u64,
 }
 
 fn reply_of(what: u64, count: usize, numbers: [u64; NUMBERS], r: Record) -> Reply {
@@ -57,6 +59,7 @@ fn reply_of(what: u64, count: usize, numbers: [u64; NUMBERS], r: Record) -> Repl
         to: 0,
         next: r,
         roll: 0,
+        engine: 0,
     }
 }
 

@@ -10,6 +10,7 @@ use crate::words::Bounds;
 use crate::words::WORDS;
 use orders::Outcome;
 use orders::Record;
+use runs::Engine;
 
 // The first digit of the kinds of these lines in the table of calls.rt, and the kinds.
 pub const FILE: u64 = 3;
@@ -72,18 +73,25 @@ fn set(v: [u64; WORDS], s: State, given: &[u8], roll: &mut [u8]) -> Reply {
 }
 
 fn changed(kind: u64, v: [u64; WORDS], s: State, given: &[u8], roll: &mut [u8]) -> Reply {
-    let o = call(kind, v, s.record, given, roll);
+    let o = call(runs::engine_of(s.engine), kind, v, s.record, given, roll);
     reply::count(o.number, o.count, o.next)
 }
 
-fn call(kind: u64, v: [u64; WORDS], r: Record, given: &[u8], roll: &mut [u8]) -> Outcome {
+fn call(
+    engine: Engine,
+    kind: u64,
+    v: [u64; WORDS],
+    r: Record,
+    given: &[u8],
+    roll: &mut [u8],
+) -> Outcome {
     match kind {
         // appendroll BYTES
-        APPENDROLL => append_roll::append_roll(r, words::part(given, 0, v[0]), roll),
+        APPENDROLL => append_roll::append_roll(engine, r, words::part(given, 0, v[0]), roll),
         // rewindroll KEEP BYTES
-        REWINDROLL => rewind_roll::rewind_roll(r, v[0], words::part(given, 0, v[1]), roll),
+        REWINDROLL => rewind_roll::rewind_roll(engine, r, v[0], words::part(given, 0, v[1]), roll),
         // endroll KEEP
-        ENDROLL => rewind_roll::end_roll(r, v[0], roll),
+        ENDROLL => rewind_roll::end_roll(engine, r, v[0], roll),
         _ => record::refused(0, r),
     }
 }

@@ -1,6 +1,7 @@
 // The words of a line, read by the form of its call.
 ghost use Prim.Native.Nat.{_≤_};
 ghost use lib.ListN.{length};
+use script::ENGINES;
 use script::Number;
 use script::OUTPUT;
 use script::ROLL;
@@ -17,7 +18,7 @@ pub struct Words {
     pub kind: u64,
     // Whether there is such a kind, and the words so far are those of its form.
     pub is: bool,
-    // One value for each: of a number, LAST and SIZE of a roll itself; of BYTES, which stand end to end in one buffer, the place where they end; and of
+    // One value for each: of a number, LAST, SIZE of a roll and an engine itself; of BYTES, which stand end to end in one buffer, the place where they end; and of
     // the outputs that a call is lent, which stand end to end in another, likewise.
     pub values: [u64; WORDS],
     // Where the last BYTES end.
@@ -29,7 +30,7 @@ pub struct Words {
 }
 
 // Reads the words of a line by a form, which has a letter for each word after the name: n a number, l LAST, b BYTES, s SIZE of an output, o BYTES that are
-// lent as an output, r SIZE of a roll, c BYTES of a roll.
+// lent as an output, r SIZE of a roll, c BYTES of a roll, e the number of an engine.
 pub fn read(kind: Number, line: &[u8], form: &[u8], given: &mut [u8], lent: &mut [u8]) -> Words {
     let mut w = none(kind, script::until(line, b' '));
     let mut i: usize = 0;
@@ -104,8 +105,9 @@ fn value(letter: u8, word: &[u8], w: Words, given: &mut [u8], lent: &mut [u8]) -
         b's' => output(word, OUTPUT, w.lent, lent),
         b'b' => bytes(word, w.given, given),
         b'o' => bytes(word, w.lent, lent),
-        b'r' => size(word, ROLL as u64),
+        b'r' => number(word, 0, ROLL as u64),
         b'c' => roll_bytes(word, w.given, given),
+        b'e' => number(word, 1, ENGINES),
         _ => no_value(),
     }
 }
@@ -130,10 +132,10 @@ fn wide(x: u8) -> u64 {
     x as u64
 }
 
-// SIZE, at most so many bytes.
-fn size(word: &[u8], most: u64) -> Number {
+// A number from low to high.
+fn number(word: &[u8], low: u64, high: u64) -> Number {
     let v = script::read_number(word);
-    if most < v.value {
+    if (v.value < low) | (high < v.value) {
         return no_value();
     }
     v
@@ -141,7 +143,7 @@ fn size(word: &[u8], most: u64) -> Number {
 
 // SIZE of an output, which stands behind the bytes that are used.
 fn output(word: &[u8], most: u64, used: u64, lent: &mut [u8]) -> Number {
-    let v = size(word, most);
+    let v = number(word, 0, most);
     let end = std::num::wrapping_add_u64(used, v.value);
     let p = within(used, end, lent);
     let from = p.from;

@@ -12,20 +12,21 @@ ghost use Rattle.orders.specs.Record.{heldLength, sound};
 ghost use Rattle.orders.specs.Rewind.{startsOffBlock, keepsTooMuch, heldDiffers, cutCall, rewindInTurn, rewindCall};
 use orders::Outcome;
 use orders::Record;
+use runs::Engine;
 
 // The record after its last bytes h were handed back and the first keep of them remain.
-pub fn rewind(r: Record, keep: u64, h: &[u8]) -> Outcome
+pub fn rewind(engine: Engine, r: Record, keep: u64, h: &[u8]) -> Outcome
     ensures { λ o. ⌜ o ≡ rewindCall r keep (now (h .entry)) ⌝ }
 {
     let a = record::turn(r, record::is_begun(r));
     if a != 0 {
         return record::refused(a, r);
     }
-    in_turn(r, keep, h)
+    in_turn(engine, r, keep, h)
 }
 
 // The answer where the call is in turn.
-pub fn in_turn(r: Record, keep: u64, h: &[u8]) -> Outcome
+pub fn in_turn(engine: Engine, r: Record, keep: u64, h: &[u8]) -> Outcome
     requires { ⌜ sound r ≡ true ⌝ }
     ensures { λ o. ⌜ o ≡ rewindInTurn r keep (now (h .entry)) ⌝ }
 {
@@ -36,7 +37,7 @@ pub fn in_turn(r: Record, keep: u64, h: &[u8]) -> Outcome
     if keeps_too_much(r.w, keep, size) {
         return record::refused(7, r);
     }
-    rewind_bytes(r, keep, h)
+    rewind_bytes(engine, r, keep, h)
 }
 
 fn starts_off_block(w: u64, total: u64, size: u64) -> bool
@@ -58,7 +59,7 @@ pub fn keeps_too_much(w: u64, keep: u64, size: u64) -> bool
 }
 
 // Where the lengths are right.
-fn rewind_bytes(r: Record, keep: u64, h: &[u8]) -> Outcome
+fn rewind_bytes(engine: Engine, r: Record, keep: u64, h: &[u8]) -> Outcome
     requires { ⌜ (sound r ≡ true)
         × (startsOffBlock (blockBytes (sizeOf (r .w))) (r .total) (length (now h)) ≡ false)
         × (keepsTooMuch (blockBytes (sizeOf (r .w))) keep (length (now h)) ≡ false) ⌝ }
@@ -68,14 +69,22 @@ fn rewind_bytes(r: Record, keep: u64, h: &[u8]) -> Outcome
         return record::refused(8, r);
     }
     let chain = r.chain;
-    let run = runs::backward(r.w, chain, h);
+    let run = runs::backward(engine, r.w, chain, h);
     let c = run.chain;
-    cut(r, run.count as u64, h.len() as u64, keep, c, h)
+    cut(engine, r, run.count as u64, h.len() as u64, keep, c, h)
 }
 
 // The answer where size bytes were handed back, which lead back to the chain c over count blocks, and the first keep of the bytes s remain.
 // 9 is known only after the run, which is on copies, so a refusal has nothing to undo.
-pub fn cut(r: Record, count: u64, size: u64, keep: u64, c: [u64; 16], s: &[u8]) -> Outcome
+pub fn cut(
+    engine: Engine,
+    r: Record,
+    count: u64,
+    size: u64,
+    keep: u64,
+    c: [u64; 16],
+    s: &[u8],
+) -> Outcome
     requires { ⌜ (sound r ≡ true)
         × (count ≡ size / blockBytes (sizeOf (r .w)))
         × (size ≤ r .total)
@@ -88,7 +97,7 @@ pub fn cut(r: Record, count: u64, size: u64, keep: u64, c: [u64; 16], s: &[u8]) 
     let n = r.n;
     let total = r.total;
     let left = total - size;
-    if opening_differs(w, n, left, c) {
+    if opening_differs(engine, w, n, left, c) {
         return record::refused(9, r);
     }
     let remains = runs::zero_filled(&s[..keep as usize]);
@@ -120,12 +129,12 @@ pub fn held_differs(r: Record, h: &[u8]) -> bool
 }
 
 // Whether nothing is left before the bytes handed back and the chain c is not the opening chain.
-fn opening_differs(w: u64, n: u64, left: u64, c: [u64; 16]) -> bool
+fn opening_differs(engine: Engine, w: u64, n: u64, left: u64, c: [u64; 16]) -> bool
     requires { ⌜ (isWordSize w ≡ true) × (isDigestLength w n ≡ true) ⌝ }
     ensures { λ b. ⌜ b ≡ (eqb left 0 && not (equal c (opening (sizeOf w) n))) ⌝ }
 {
     if left != 0 {
         return false;
     }
-    !buffers::equal_chains(c, runs::opening(w, n))
+    !buffers::equal_chains(c, runs::opening(engine, w, n))
 }

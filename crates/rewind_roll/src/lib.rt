@@ -12,23 +12,24 @@ ghost use Rattle.checkpoints.specs.EndRoll.{endRollCall, endedRoll};
 use orders::Outcome;
 use orders::Record;
 use roll::Traversal;
+use runs::Engine;
 
 // The record after its last bytes h were handed back and the first keep of them remain.
-pub fn rewind_roll(r: Record, keep: u64, h: &[u8], roll: &mut [u8]) -> Outcome
+pub fn rewind_roll(engine: Engine, r: Record, keep: u64, h: &[u8], roll: &mut [u8]) -> Outcome
     ensures { λ o. ⌜ (o ≡ rewindRollCall r keep (now (h .entry)) (now (roll .entry))) × (now (roll .exit) ≡ rewoundRoll r keep (now (h .entry)) (now (roll .entry))) ⌝ }
 {
     let y = roll::walk(r.w, roll);
-    let o = rewound(r, keep, h, y);
+    let o = rewound(engine, r, keep, h, y);
     cut_roll(r.w, o, roll, y);
     o
 }
 
 // The record of what remains, where the first keep of the bytes handed back in steps are kept.
-pub fn end_roll(r: Record, keep: u64, roll: &mut [u8]) -> Outcome
+pub fn end_roll(engine: Engine, r: Record, keep: u64, roll: &mut [u8]) -> Outcome
     ensures { λ o. ⌜ (o ≡ endRollCall r keep (now (roll .entry))) × (now (roll .exit) ≡ endedRoll r keep (now (roll .entry))) ⌝ }
 {
     let y = roll::walk(r.w, roll);
-    let o = ended(r, keep, y);
+    let o = ended(engine, r, keep, y);
     cut_roll(r.w, o, roll, y);
     o
 }
@@ -47,23 +48,23 @@ fn cut_roll(w: u64, o: Outcome, roll: &mut [u8], y: Traversal)
 }
 
 // The answer of a Rewind, where y is what is known of the roll.
-fn rewound(r: Record, keep: u64, h: &[u8], y: Traversal) -> Outcome
+fn rewound(engine: Engine, r: Record, keep: u64, h: &[u8], y: Traversal) -> Outcome
     ensures { λ o. ⌜ ((roll : List ℕ) → y ≡ traversalOf (sizeOf (r .w)) roll → o ≡ rewindRollCall r keep (now (h .entry)) roll) ⌝ }
 {
     let a = roll::turn(r, record::is_begun(r), y);
     if a != 0 {
         return record::refused(a, r);
     }
-    rewind::in_turn(r, keep, h)
+    rewind::in_turn(engine, r, keep, h)
 }
 
 // The answer of an end.
-fn ended(r: Record, keep: u64, y: Traversal) -> Outcome
+fn ended(engine: Engine, r: Record, keep: u64, y: Traversal) -> Outcome
     ensures { λ o. ⌜ ((roll : List ℕ) → y ≡ traversalOf (sizeOf (r .w)) roll → o ≡ endRollCall r keep roll) ⌝ }
 {
     let a = roll::turn(r, !record::is_begun(r), y);
     if a != 0 {
         return record::refused(a, r);
     }
-    split_rewind::in_turn(r, keep)
+    split_rewind::in_turn(engine, r, keep)
 }

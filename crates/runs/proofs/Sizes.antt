@@ -27,7 +27,7 @@ abbrev pub Running : Type 0
 Running = WordSize → List (List ℕ) → List ℕ → List ℕ
 
 module _ (run : Running) (w : ℕ) (s : List ℕ) where
-  -- what the engine of a word size gives is what w asks for
+  -- what the code of a word size gives is what w asks for
   pub run-by : {z : WordSize} {t t₁ r : List ℕ} {n : ℕ} → sizeOf w ≡ z → t₁ ≡ t
       → (r ≡ run z (blocksOf z s) t₁) × (n ≡ length s / blockBytes z)
       → (r ≡ run (sizeOf w) (blocksOf (sizeOf w) s) t) × (n ≡ length s / blockBytes (sizeOf w))

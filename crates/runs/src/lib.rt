@@ -1,4 +1,4 @@
-// Whole blocks on a chain of 16 numbers, for either word size, and the opening chain.
+// Whole blocks on a chain of 16 numbers, for either word size and by either engine, and the opening chain.
 ghost use mathlib.Core.Path.{_≡_};
 ghost use mathlib.Core.Bool.{true};
 ghost use mathlib.Core.List.{_∷_};
@@ -6,7 +6,7 @@ ghost use Prim.Native.Nat.{ℕ, _+_, _*_, _/_, _^_, _<_, _≤_};
 ghost use lib.ListN.{length, replicate};
 ghost use lib.Seq.{paste};
 ghost use Rattle.lsh.specs.Tabulate.{at};
-ghost use Rattle.lsh.specs.WordSize.{isWordSize, sizeOf, chainBytes, blockBytes};
+ghost use Rattle.lsh.specs.WordSize.{isWordSize, lsh256, lsh512, sizeOf, chainBytes, blockBytes};
 ghost use Rattle.lsh.specs.Bytes.{wordsOf, bytesOf};
 ghost use Rattle.lsh.specs.Block.{Chain, forwards, backwards};
 ghost use Rattle.lsh.specs.Opening.{opening};
@@ -16,6 +16,30 @@ ghost use Rattle.limits.specs.Limits.{longestBlock, longestDigest, isDigestLeng
 use limits::LONGEST_BLOCK;
 use lsh256::Lsh256;
 use lsh512::Lsh512;
+
+// Which code runs the blocks: word by word, or in groups of four words. Both give the same chains, so that no contract names the one that a call is given.
+pub enum Engine {
+    Words,
+    Groups,
+}
+
+// The number of the groups for C. Every other number is the words.
+const GROUPS: u64 = 2;
+
+pub fn engine_of(number: u64) -> Engine {
+    if number == GROUPS {
+        return Engine::Groups;
+    }
+    Engine::Words
+}
+
+// The one that was measured to be faster at a word size.
+pub fn faster_engine(w: u64) -> Engine {
+    if w == 32 {
+        return Engine::Groups;
+    }
+    Engine::Words
+}
 
 pub fn is_word_size(w: u64) -> bool
     ensures { λ b. ⌜ b ≡ isWordSize w ⌝ }
@@ -69,8 +93,46 @@ pub struct Run {
     pub count: usize,
 }
 
+// Runs the whole blocks of s forward, in order, on the chain t, at one word size. These four functions alone look at the engine.
+fn forward32(engine: Engine, t: [u32; 16], s: &[u8]) -> lsh256::Run
+    ensures { λ r. ⌜ (r .chain ≡ forwards lsh256 (blocksOf lsh256 (now (s .entry))) t) × (r .count ≡ length (now (s .entry)) / blockBytes lsh256) ⌝ }
+{
+    match engine {
+        Engine::Words => lsh256::forward(Lsh256::STEPS, t, s),
+        Engine::Groups => lsh256::forward(Lsh256::STEPS, t, s), // STUB
+    }
+}
+
+fn forward64(engine: Engine, t: [u64; 16], s: &[u8]) -> lsh512::Run
+    ensures { λ r. ⌜ (r .chain ≡ forwards lsh512 (blocksOf lsh512 (now (s .entry))) t) × (r .count ≡ length (now (s .entry)) / blockBytes lsh512) ⌝ }
+{
+    match engine {
+        Engine::Words => lsh512::forward(Lsh512::STEPS, t, s),
+        Engine::Groups => lsh512::forward(Lsh512::STEPS, t, s), // STUB
+    }
+}
+
+// Backward, from the last block.
+fn backward32(engine: Engine, t: [u32; 16], s: &[u8]) -> lsh256::Run
+    ensures { λ r. ⌜ (r .chain ≡ backwards lsh256 (blocksOf lsh256 (now (s .entry))) t) × (r .count ≡ length (now (s .entry)) / blockBytes lsh256) ⌝ }
+{
+    match engine {
+        Engine::Words => lsh256::backward(Lsh256::STEPS, t, s),
+        Engine::Groups => lsh256::backward(Lsh256::STEPS, t, s), // STUB
+    }
+}
+
+fn backward64(engine: Engine, t: [u64; 16], s: &[u8]) -> lsh512::Run
+    ensures { λ r. ⌜ (r .chain ≡ backwards lsh512 (blocksOf lsh512 (now (s .entry))) t) × (r .count ≡ length (now (s .entry)) / blockBytes lsh512) ⌝ }
+{
+    match engine {
+        Engine::Words => lsh512::backward(Lsh512::STEPS, t, s),
+        Engine::Groups => lsh512::backward(Lsh512::STEPS, t, s), // STUB
+    }
+}
+
 // Runs the whole blocks of s forward, in order, on the chain t.
-pub fn forward(w: u64, t: [u64; 16], s: &[u8]) -> Run
+pub fn forward(engine: Engine, w: u64, t: [u64; 16], s: &[u8]) -> Run
     requires { ⌜ (isWordSize w ≡ true) × Chain (sizeOf w) t ⌝ }
     ensures { λ r. ⌜ (r .chain ≡ forwards (sizeOf w) (blocksOf (sizeOf w) (now (s .entry))) t) × (r .count ≡ length (now (s .entry)) / blockBytes (sizeOf w)) ⌝ }
 {
@@ -79,14 +141,14 @@ pub fn forward(w: u64, t: [u64; 16], s: &[u8]) -> Run
         return Run { chain: t, count: 0 };
     }
     if w == 32 {
-        let small = lsh256::forward(Lsh256::STEPS, narrow(t), s);
+        let small = forward32(engine, narrow(t), s);
         let words = small.chain;
         return Run {
             chain: widen(words),
             count: small.count,
         };
     }
-    let run = lsh512::forward(Lsh512::STEPS, t, s);
+    let run = forward64(engine, t, s);
     let chain = run.chain;
     Run {
         chain: chain,
@@ -95,7 +157,7 @@ pub fn forward(w: u64, t: [u64; 16], s: &[u8]) -> Run
 }
 
 // Runs the whole blocks of s backward, from the last, on the chain t.
-pub fn backward(w: u64, t: [u64; 16], s: &[u8]) -> Run
+pub fn backward(engine: Engine, w: u64, t: [u64; 16], s: &[u8]) -> Run
     requires { ⌜ (isWordSize w ≡ true) × Chain (sizeOf w) t ⌝ }
     ensures { λ r. ⌜ (r .chain ≡ backwards (sizeOf w) (blocksOf (sizeOf w) (now (s .entry))) t) × (r .count ≡ length (now (s .entry)) / blockBytes (sizeOf w)) ⌝ }
 {
@@ -103,14 +165,14 @@ pub fn backward(w: u64, t: [u64; 16], s: &[u8]) -> Run
         return Run { chain: t, count: 0 };
     }
     if w == 32 {
-        let small = lsh256::backward(Lsh256::STEPS, narrow(t), s);
+        let small = backward32(engine, narrow(t), s);
         let words = small.chain;
         return Run {
             chain: widen(words),
             count: small.count,
         };
     }
-    let run = lsh512::backward(Lsh512::STEPS, t, s);
+    let run = backward64(engine, t, s);
     let chain = run.chain;
     Run {
         chain: chain,
@@ -119,42 +181,42 @@ pub fn backward(w: u64, t: [u64; 16], s: &[u8]) -> Run
 }
 
 // The same on the bytes of a chain. Its words stay at the width of w: a block alone would take some hundredths longer if they were widened and narrowed.
-pub fn forward_bytes(w: u64, chain: &mut [u8], s: &[u8])
+pub fn forward_bytes(engine: Engine, w: u64, chain: &mut [u8], s: &[u8])
     requires { ⌜ (isWordSize w ≡ true) × (length (now chain) ≡ chainBytes (sizeOf w)) ⌝ }
     ensures { λ _. ⌜ now (chain .exit) ≡ bytesOf (sizeOf w) (forwards (sizeOf w) (blocksOf (sizeOf w) (now (s .entry))) (wordsOf (sizeOf w) 16 (now (chain .entry)))) ⌝ }
 {
     if w == 32 {
         let t = lsh256::load_chain(chain);
-        let run = lsh256::forward(Lsh256::STEPS, t, s);
+        let run = forward32(engine, t, s);
         let ahead = run.chain;
         lsh256::store_chain(chain, ahead);
         return;
     }
     let t = lsh512::load_chain(chain);
-    let run = lsh512::forward(Lsh512::STEPS, t, s);
+    let run = forward64(engine, t, s);
     let ahead = run.chain;
     lsh512::store_chain(chain, ahead);
 }
 
-pub fn backward_bytes(w: u64, chain: &mut [u8], s: &[u8])
+pub fn backward_bytes(engine: Engine, w: u64, chain: &mut [u8], s: &[u8])
     requires { ⌜ (isWordSize w ≡ true) × (length (now chain) ≡ chainBytes (sizeOf w)) ⌝ }
     ensures { λ _. ⌜ now (chain .exit) ≡ bytesOf (sizeOf w) (backwards (sizeOf w) (blocksOf (sizeOf w) (now (s .entry))) (wordsOf (sizeOf w) 16 (now (chain .entry)))) ⌝ }
 {
     if w == 32 {
         let t = lsh256::load_chain(chain);
-        let run = lsh256::backward(Lsh256::STEPS, t, s);
+        let run = backward32(engine, t, s);
         let before = run.chain;
         lsh256::store_chain(chain, before);
         return;
     }
     let t = lsh512::load_chain(chain);
-    let run = lsh512::backward(Lsh512::STEPS, t, s);
+    let run = backward64(engine, t, s);
     let before = run.chain;
     lsh512::store_chain(chain, before);
 }
 
 // The opening chain. Those of the published functions are stored, which saves a run where the message is short.
-pub fn opening(w: u64, n: u64) -> [u64; 16]
+pub fn opening(engine: Engine, w: u64, n: u64) -> [u64; 16]
     requires { ⌜ (isWordSize w ≡ true) × (n ≤ 8 * w) ⌝ }
     ensures { λ r. ⌜ r ≡ opening (sizeOf w) n ⌝ }
 {
@@ -162,17 +224,17 @@ pub fn opening(w: u64, n: u64) -> [u64; 16]
     if k < 6 {
         return published::opening(k);
     }
-    opening_run(w, n)
+    opening_run(engine, w, n)
 }
 
 // A block of zeros run on the chain whose words 0 and 1 are w and n.
-fn opening_run(w: u64, n: u64) -> [u64; 16]
+fn opening_run(engine: Engine, w: u64, n: u64) -> [u64; 16]
     requires { ⌜ (isWordSize w ≡ true) × (n ≤ longestDigest w) ⌝ }
     ensures { λ r. ⌜ r ≡ opening (sizeOf w) n ⌝ }
 {
     let size = block_bytes(w);
     let zeros = zero_bytes();
-    let run = forward(w, first_chain(w, n), &zeros[..size]);
+    let run = forward(engine, w, first_chain(w, n), &zeros[..size]);
     run.chain
 }
 

@@ -16,6 +16,9 @@ pub const OUTPUT: u64 = 4096;
 
 pub const ROLL: usize = 65536;
 
+// The engines that a line can choose have the numbers from 1 to this.
+pub const ENGINES: u64 = 2;
+
 // The number that a word says, if it is one.
 pub struct Number {
     pub is: bool,

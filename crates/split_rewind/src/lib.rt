@@ -13,6 +13,7 @@ ghost use Rattle.orders.specs.Abandon.{abandonCall};
 use orders::Outcome;
 use orders::Record;
 use orders::Split;
+use runs::Engine;
 
 // The record with a split rewind begun, by the bytes that it holds.
 pub fn begin(r: Record, bytes: &[u8]) -> Outcome
@@ -40,7 +41,7 @@ pub fn begin(r: Record, bytes: &[u8]) -> Outcome
 }
 
 // The record with one more block handed back.
-pub fn hand_back(r: Record, block: &[u8]) -> Outcome
+pub fn hand_back(engine: Engine, r: Record, block: &[u8]) -> Outcome
     ensures { λ o. ⌜ o ≡ handBackCall r (now (block .entry)) ⌝ }
 {
     let a = record::turn(r, !record::is_begun(r));
@@ -50,7 +51,7 @@ pub fn hand_back(r: Record, block: &[u8]) -> Outcome
     if no_block(r.w, r.total, r.split.blocks, block.len()) {
         return record::refused(6, r);
     }
-    let next = handed_back(r, block);
+    let next = handed_back(engine, r, block);
     record::stepped(r, next)
 }
 
@@ -65,13 +66,13 @@ fn no_block(w: u64, total: u64, blocks: u64, size: usize) -> bool
     total / b as u64 <= blocks
 }
 
-fn handed_back(r: Record, block: &[u8]) -> Split
+fn handed_back(engine: Engine, r: Record, block: &[u8]) -> Split
     requires { ⌜ (sound r ≡ true) × (isBegun r ≡ true) × (noBlock (blockBytes (sizeOf (r .w))) (r .total) (r .split .blocks) (length (now block)) ≡ false) ⌝ }
     ensures { λ s. ⌜ s ≡ handedBack r (now (block .entry)) ⌝ }
 {
     let s = r.split;
     let second = s.second;
-    let run = runs::backward(r.w, second, block);
+    let run = runs::backward(engine, r.w, second, block);
     let c = run.chain;
     let back = runs::zero_filled(block);
     Split {
@@ -83,18 +84,18 @@ fn handed_back(r: Record, block: &[u8]) -> Split
 }
 
 // The record of what remains, where the first keep of the bytes handed back are kept.
-pub fn end(r: Record, keep: u64) -> Outcome
+pub fn end(engine: Engine, r: Record, keep: u64) -> Outcome
     ensures { λ o. ⌜ o ≡ endCall r keep ⌝ }
 {
     let a = record::turn(r, !record::is_begun(r));
     if a != 0 {
         return record::refused(a, r);
     }
-    in_turn(r, keep)
+    in_turn(engine, r, keep)
 }
 
 // The answer where the call is in turn.
-pub fn in_turn(r: Record, keep: u64) -> Outcome
+pub fn in_turn(engine: Engine, r: Record, keep: u64) -> Outcome
     requires { ⌜ (sound r ≡ true) × (isBegun r ≡ true) ⌝ }
     ensures { λ o. ⌜ o ≡ endInTurn r keep ⌝ }
 {
@@ -102,7 +103,7 @@ pub fn in_turn(r: Record, keep: u64) -> Outcome
     if rewind::keeps_too_much(r.w, keep, size) {
         return record::refused(7, r);
     }
-    remaining(r, size, keep)
+    remaining(engine, r, size, keep)
 }
 
 // How many bytes were handed back.
@@ -114,7 +115,7 @@ fn handed(r: Record) -> u64
 }
 
 // Where the lengths are right: the bytes that remain are those of the block handed back last, or of the held part if none was.
-fn remaining(r: Record, size: u64, keep: u64) -> Outcome
+fn remaining(engine: Engine, r: Record, size: u64, keep: u64) -> Outcome
     requires { ⌜ (sound r ≡ true) × (isBegun r ≡ true) × (size ≡ handed r) × (keepsTooMuch (blockBytes (sizeOf (r .w))) keep size ≡ false) ⌝ }
     ensures { λ o. ⌜ o ≡ cutCall r (record { size = size; keep = keep; chain = r .split .second; bytes = lastBytes r }) ⌝ }
 {
@@ -125,10 +126,10 @@ fn remaining(r: Record, size: u64, keep: u64) -> Outcome
     let blocks = s.blocks;
     if blocks == 0 {
         let at = record::held_length(r.w, r.total);
-        return rewind::cut(r, blocks, size, keep, second, &held[..at]);
+        return rewind::cut(engine, r, blocks, size, keep, second, &held[..at]);
     }
     let b = runs::block_bytes(r.w);
-    rewind::cut(r, blocks, size, keep, second, &back[..b])
+    rewind::cut(engine, r, blocks, size, keep, second, &back[..b])
 }
 
 // The record before the rewind began.

@@ -12,6 +12,26 @@ for script in crates/replay/scripts/*.in; do
     passed 3
 done
 
+# The answers are the same on either engine, and where it changes from line to line. The lines that choose it are left out of what is compared, and
+# those that are no call, which have other numbers with them.
+answers() {
+    grep -v '^engine$\|^line '
+}
+for script in crates/replay/scripts/*.in crates/replay/stdin; do
+    ./kiosk replay "$script" 2>/dev/null | answers >"$work/.answers"
+    [ "$(wc -l <"$work/.answers")" -gt 0 ] || fail "$script has no answers"
+    for engines in 1 2 'NR % 2 + 1' '2 - NR % 2'; do
+        awk "{ print \"engine \" $engines; print }" "$script" >"$work/script"
+        ./kiosk replay "$work/script" >"$work/.all" 2>/dev/null
+        answers <"$work/.all" | cmp - "$work/.answers" || fail "$script on the engines $engines"
+        [ "$(grep -c '^engine$' "$work/.all")" -eq "$(wc -l <"$script")" ] || fail "$script: how often an engine is chosen"
+        passed 2
+    done
+done
+# A number may have leading zeros.
+printf 'engine 1\nengine 2\nengine 002\nengine 01\n' >"$work/script"
+expect_kiosk 0 $'engine\nengine\nengine\nengine\n' '' replay script
+
 # The answer comes before the next line is sent.
 coproc replay { ./kiosk replay; }
 # shellcheck disable=SC2154 # coproc sets it
@@ -74,6 +94,17 @@ rewind 0 --|word 3: bytes have hexadecimal digits only, and are a dash if there 
 close 0 0 76|word 2: a byte has two digits, and here is one too few
 close 0000 0 76|word 2: LAST is one byte
 close - 0 76|word 2: LAST is one byte
+engine|a line of this call has 2 words
+engine 1 2|a line of this call has 2 words
+engine  1|$spaces
+Engine 1|its first word is no call
+engine 0|word 2: an engine is 1 or 2
+engine 3|word 2: an engine is 1 or 2
+engine 257|word 2: an engine is 1 or 2
+engine 4294967298|word 2: an engine is 1 or 2
+engine 18446744073709551615|word 2: an engine is 1 or 2
+engine 18446744073709551617|word 2: the number is above 18446744073709551615
+engine -|word 2: a number has decimal digits only
 tag 32 256 0 0 a|word 4: a byte has two digits, and here is one too few
 set 32 256 0 $chain $held 0 $chain 00 0|CHAIN and SECOND have 256 digits each, HELD and BACK 512
 TEXT

@@ -80,9 +80,9 @@ add-r : tie.Need-add-r
 unfolding limit
 add-r c = record { fits = omega (arith, Z (c .before .before .before .before .before .before .before .before .before .before) .pre .1) }
 
-add-t24 : tie.Need-add-t24
+add-count : tie.Need-add-t25
 unfolding limit
-add-t24 c =
+add-count c =
     let a = c .before .before .before .before .before .before .before .before .before .before .before in
     let z = Z a in
     let B : ℕ = blockBytes (sizeOf (R z .w)) in
@@ -134,5 +134,5 @@ append-long-spec =
     (λ c. search needs)
     absorb-requires
     add-r
-    add-t24
+    add-count
     returns)

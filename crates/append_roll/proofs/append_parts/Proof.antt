@@ -22,10 +22,10 @@ use Rattle.append_roll.proofs.append_parts.Statement.{statement}
 use Rattle.append_roll.proofs.append_parts.Tie as tie
 
 abbrev Inv-loop : tie.InvT-loop
-Inv-loop r piece roll₀ first step p₀ at₀ roll p at = Parted r piece at₀ roll₀ (p .chain) (p .count) (p .known) at roll
+Inv-loop engine r piece roll₀ first step p₀ at₀ roll p at = Parted r piece at₀ roll₀ (p .chain) (p .count) (p .known) at roll
 
 abbrev μ-loop : tie.MeasureT-loop
-μ-loop r piece roll₀ first step p₀ at₀ roll p at = length piece - at
+μ-loop engine r piece roll₀ first step p₀ at₀ roll p at = length piece - at
 
 -- at the entry
 module _ (z : tie.Start Inv-loop μ-loop) where
@@ -90,11 +90,11 @@ module _ (l : tie.At-loop Inv-loop μ-loop) where
   step-is : Q ≡ step (R from-start .w)
   step-is = l .before .before .before .before .before .before .between-checkpoints .ensures
 
-  inserted-first : l .before .before .before .first-part .last .1 .1 .0 ≡ inserted-at (R from-start) (P from-start) (first entered) (S from-start)
+  inserted-first : l .before .before .before .first-part .last .1 .1 .1 .0 ≡ inserted-at (R from-start) (P from-start) (first entered) (S from-start)
   inserted-first = l .before .before .before .first-part .ensures .2 _
 
-  rest-first : (length (l .before .before .before .first-part .last .1 .1 .0) ≡ length (S from-start))
-      × (due-after (R from-start) (P from-start) (first entered) (l .before .before .before .first-part .last .1 .1 .0) ≡ goal-of (R from-start) (P from-start) (S from-start))
+  rest-first : (length (l .before .before .before .first-part .last .1 .1 .1 .0) ≡ length (S from-start))
+      × (due-after (R from-start) (P from-start) (first entered) (l .before .before .before .first-part .last .1 .1 .1 .0) ≡ goal-of (R from-start) (P from-start) (S from-start))
   rest-first =
       first-rest (R from-start) (P from-start) (entry from-start) (first entered) (next entered) (le entered) inserted-first
 

@@ -13,7 +13,7 @@ use Rattle.roll.proofs.Walked.{traversal-count, traversal-slots}
 use Rattle.append_roll.proofs.next_part.Statement.{statement}
 use Rattle.append_roll.proofs.next_part.Tie as tie
 
-add-count : tie.Need-add-t13
+add-count : tie.Need-add-t14
 unfolding limit
 add-count c =
     let f = c .before .before .before .before .before .before in

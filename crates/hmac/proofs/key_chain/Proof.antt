@@ -15,6 +15,9 @@ use Rattle.tags.proofs.Keys.{xored-front}
 use Rattle.hmac.proofs.key_chain.Statement.{statement}
 use Rattle.hmac.proofs.key_chain.Tie as tie
 
+long : (z : tie.Start) → length (z .args .block) ≡ longestBlock
+long z = search needs
+
 -- a block fits into the array
 inside : tie.Need-array-share-prefix-b
 inside c =
@@ -34,7 +37,6 @@ key-chain-spec =
     let f = c .before in
     let x = f .before .before in
     let z = x .before .before in
-    let long : length (z .args .block) ≡ longestBlock = search needs in
     f .forward .ensures .0
     ∙ ap (λ (s : List ℕ). forwards (sizeOf (z .args .w)) (blocksOf (sizeOf (z .args .w)) s) (z .args .opened))
-    (xored-front (z .args .w) (z .args .x) (z .args .block) long (x .before .block-bytes .ensures) (x .xor-each .ensures))))
+    (xored-front (z .args .w) (z .args .x) (z .args .block) (long z) (x .before .block-bytes .ensures) (x .xor-each .ensures))))

@@ -4,4 +4,4 @@ use Rattle.lsh_kiosk.proofs.lsh_append.Statement.{statement}
 use Rattle.lsh_kiosk.proofs.lsh_append.Tie as tie
 
 pub lsh-append-spec : {M : Type 1} → statement M
-lsh-append-spec = tie.close (tie.spec (λ c κs. search needs) (λ c. search needs))
+lsh-append-spec = tie.close (tie.spec (λ c κs. search needs) (λ c κs. search needs) (λ c. search needs))

@@ -6,10 +6,10 @@ use Rattle.fingerprint.proofs.reading.read_all.Statement.{statement}
 use Rattle.fingerprint.proofs.reading.read_all.Tie as tie
 
 abbrev Inv-loop : tie.InvT-loop
-Inv-loop fd name chunk₀ t₀ reads₀ chunk t reads = length chunk ≡ length chunk₀
+Inv-loop engine fd name chunk₀ t₀ reads₀ chunk t reads = length chunk ≡ length chunk₀
 
 abbrev μ-loop : tie.MeasureT-loop
-μ-loop fd name chunk₀ t₀ reads₀ chunk t reads = reads
+μ-loop engine fd name chunk₀ t₀ reads₀ chunk t reads = reads
 
 pub read-all-spec : {M : Type 1} → statement M
 read-all-spec =
