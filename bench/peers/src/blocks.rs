@@ -6,7 +6,7 @@ use crate::peers::{
     reference_backward, reference_forward, BlockPeer, Run,
 };
 use crate::peers::{CRYPTOPP, MODULE, REFERENCE};
-use crate::table::Column::{self, OfPeer, OfWork, Rate};
+use crate::table::Column::{self, OfPeer, OfWords, OfWork, Rate};
 use crate::timing::{Task, Timing};
 use compare::roll::shown;
 use lsh_ref::Word;
@@ -18,20 +18,25 @@ pub const APPEND_ROLL: &str = "Append with a roll";
 pub const APPEND_PIECES: &str = "Append of 64 bytes each";
 pub const REWIND_STEPS: &str = "Rewind in steps";
 
-pub const COLUMNS: [Column; 6] = [
+pub const COLUMNS: [Column; 8] = [
     Rate(FORWARD),
+    OfWords(FORWARD),
     OfPeer(FORWARD, REFERENCE),
     OfPeer(FORWARD, CRYPTOPP),
     Rate(BACKWARD),
+    OfWords(BACKWARD),
     OfPeer(BACKWARD, REFERENCE),
     OfWork(BACKWARD, FORWARD),
 ];
 
-pub const RECORD_COLUMNS: [Column; 5] = [
+pub const RECORD_COLUMNS: [Column; 8] = [
     Rate(APPEND_ROLL),
+    OfWords(APPEND_ROLL),
     OfWork(APPEND_ROLL, FORWARD),
     Rate(APPEND_PIECES),
+    OfWords(APPEND_PIECES),
     Rate(REWIND_STEPS),
+    OfWords(REWIND_STEPS),
     OfWork(REWIND_STEPS, BACKWARD),
 ];
 
@@ -47,12 +52,15 @@ pub fn check_peers<W: Word>(input: &[u8]) {
         assert_eq!(chain_after(forward, &opening, input), reached, "{name}, forward, w = {w}");
         assert_eq!(chain_after(backward, &reached, input), opening, "{name}, backward, w = {w}");
     }
-    assert_eq!(module_append_pieces::<W>(input), first_word::<W>(&reached), "Append in pieces, w = {w}");
-    let mut roll = vec![0; largest_roll::<W>()];
-    assert_eq!(module_append_roll::<W>(input, &mut roll), first_word::<W>(&reached), "Append with a roll, w = {w}");
-    assert_eq!(shown(w as u64, &roll).last(), Some(&reached), "the last checkpoint, w = {w}");
     let back = chain_after(reference_backward::<W>, &vec![0; W::CHAIN_BYTES], input);
-    assert_eq!(module_rewind_steps::<W>(input), first_word::<W>(&back), "Rewind in steps, w = {w}");
+    let (reached_word, back_word) = (first_word::<W>(&reached), first_word::<W>(&back));
+    for (name, engine) in MODULE {
+        assert_eq!(module_append_pieces::<W>(engine, input), reached_word, "{name}, Append in pieces, w = {w}");
+        let mut roll = vec![0; largest_roll::<W>()];
+        assert_eq!(module_append_roll::<W>(engine, input, &mut roll), reached_word, "{name}, with a roll, w = {w}");
+        assert_eq!(shown(w as u64, &roll).last(), Some(&reached), "{name}, the last checkpoint, w = {w}");
+        assert_eq!(module_rewind_steps::<W>(engine, input), back_word, "{name}, Rewind in steps, w = {w}");
+    }
 }
 
 fn first_word<W: Word>(chain: &[u8]) -> u64 {
@@ -75,13 +83,16 @@ pub fn timings<W: Word>(input: &[u8]) -> Vec<Timing<'_>> {
     if let Some(hash) = cryptopp::<W>() {
         timings.push(hash_timing::<W>(Task { peer: CRYPTOPP, work: FORWARD }, input, input.len(), hash));
     }
-    let pieces = |input: &[u8]| _ = black_box(module_append_pieces::<W>(input));
-    timings.push(Timing::new::<W>(Task { peer: MODULE, work: APPEND_PIECES }, input, pieces));
-    let append_roll = |input: &[u8], roll: &mut [u8]| _ = black_box(module_append_roll::<W>(input, roll));
-    let task = Task { peer: MODULE, work: APPEND_ROLL };
-    timings.push(Timing::with_memory::<W>(task, input, largest_roll::<W>(), append_roll));
-    let steps = |input: &[u8]| _ = black_box(module_rewind_steps::<W>(input));
-    timings.push(Timing::new::<W>(Task { peer: MODULE, work: REWIND_STEPS }, input, steps));
+    for (peer, engine) in MODULE {
+        let pieces = move |input: &[u8]| _ = black_box(module_append_pieces::<W>(engine, input));
+        timings.push(Timing::new::<W>(Task { peer, work: APPEND_PIECES }, input, pieces));
+        let with_roll =
+            move |input: &[u8], roll: &mut [u8]| _ = black_box(module_append_roll::<W>(engine, input, roll));
+        let task = Task { peer, work: APPEND_ROLL };
+        timings.push(Timing::with_memory::<W>(task, input, largest_roll::<W>(), with_roll));
+        let steps = move |input: &[u8]| _ = black_box(module_rewind_steps::<W>(engine, input));
+        timings.push(Timing::new::<W>(Task { peer, work: REWIND_STEPS }, input, steps));
+    }
     timings
 }
 

@@ -1,5 +1,5 @@
-//! Times whole blocks, Append with a roll and in pieces, Rewind in steps, whole messages, tags and Tally by the module,
-//! through its calls for C, and by lsh_ref and Crypto++. `bench/run` builds and starts it.
+//! Times whole blocks, Append with a roll and in pieces, Rewind in steps, whole messages, tags and Tally by the module on
+//! each of its engines, through its calls for C, and by lsh_ref and Crypto++. `bench/run` builds and starts it.
 
 mod bars;
 mod blocks;
@@ -47,10 +47,11 @@ fn timings_of<W: Word>(input: &[u8]) -> Vec<Timing<'_>> {
 }
 
 fn print_report(rates: &Rates) {
-    println!("Best of {ROUNDS} rounds, in MB/s (10^6 bytes). Before the timing, all peers computed the same chains,");
+    println!("Best of {ROUNDS} rounds, in MB/s (10^6 bytes). Before the timing, both engines and all peers computed the same chains,");
     println!("digests and tags, and all buffers were touched.");
     table::print("Whole blocks over 1 MiB, by the module in one Append and in one Rewind", &blocks::COLUMNS, rates);
-    let title = format!("Append of 1 MiB with a new roll of {MOST_SLOTS} slots, and in pieces; Rewind of 1 MiB in steps");
+    let title =
+        format!("Append of 1 MiB with a new roll of {MOST_SLOTS} slots, and in pieces; Rewind of 1 MiB in steps");
     table::print(&title, &blocks::RECORD_COLUMNS, rates);
     table::print("Whole messages, LSH-256-256 and LSH-512-512", &messages::COLUMNS, rates);
     table::print("Tags (HMAC), with a key as long as the tag, LSH-256-256 and LSH-512-512", &tags::COLUMNS, rates);

@@ -1,7 +1,7 @@
 //! Whole messages of several lengths, hashed with the longest digest of the word size.
 
 use crate::peers::{digest_bits, digest_part, hash_peers, Hash, HashPeer, CRYPTOPP, REFERENCE};
-use crate::table::Column::{self, OfPeer, Rate};
+use crate::table::Column::{self, OfPeer, OfWords, Rate};
 use crate::timing::{Task, Timing};
 use compare::RECEIPT_BYTES;
 use lsh_ref::Word;
@@ -16,14 +16,17 @@ const LENGTHS: [(&str, usize); 3] = [(WHOLE_1_MIB, 1 << 20), (WHOLE_4_KIB, 1 << 
 /// A timing covers at least so much input, cut into messages, so that the clock's resolution does not matter.
 const LEAST_INPUT_BYTES: usize = 1 << 16;
 
-pub const COLUMNS: [Column; 9] = [
+pub const COLUMNS: [Column; 12] = [
     Rate(WHOLE_1_MIB),
+    OfWords(WHOLE_1_MIB),
     OfPeer(WHOLE_1_MIB, REFERENCE),
     OfPeer(WHOLE_1_MIB, CRYPTOPP),
     Rate(WHOLE_4_KIB),
+    OfWords(WHOLE_4_KIB),
     OfPeer(WHOLE_4_KIB, REFERENCE),
     OfPeer(WHOLE_4_KIB, CRYPTOPP),
     Rate(WHOLE_64_BYTES),
+    OfWords(WHOLE_64_BYTES),
     OfPeer(WHOLE_64_BYTES, REFERENCE),
     OfPeer(WHOLE_64_BYTES, CRYPTOPP),
 ];

@@ -2,15 +2,32 @@
 
 use compare::roll::{roll_bytes, MOST_SLOTS};
 use compare::{
-    append, append_roll, begin, block_backward, block_forward, end, hand_back, open, rewind, tag, tally, whole, Outcome,
-    Record, ACCEPTED, DIGEST_PLACE, RECEIPT_BYTES,
+    append, append_roll, begin, block_backward, block_forward, end, hand_back, open, rewind, tag, tally, whole,
+    Outcome, Record, ACCEPTED, DIGEST_PLACE, ENGINES, RECEIPT_BYTES,
 };
 use lsh_ref::Word;
 
-pub const MODULE: &str = "this module";
-pub const MODULE_BY_BLOCK: &str = "this module, a call for each block";
+pub const WORDS: &str = "this module, words";
+pub const GROUPS: &str = "this module, groups";
+const WORDS_BY_BLOCK: &str = "this module, words, a call for each block";
+const GROUPS_BY_BLOCK: &str = "this module, groups, a call for each block";
 pub const REFERENCE: &str = "lsh_ref";
 pub const CRYPTOPP: &str = "Crypto++";
+
+const BY_WORDS: u64 = ENGINES[0];
+const IN_GROUPS: u64 = ENGINES[1];
+
+/// The module on each of its engines, with the number of the engine.
+pub const MODULE: [(&str, u64); 2] = [(WORDS, BY_WORDS), (GROUPS, IN_GROUPS)];
+
+/// The same calls of the module on the words.
+pub fn on_words(peer: &'static str) -> Option<&'static str> {
+    match peer {
+        WORDS | GROUPS => Some(WORDS),
+        WORDS_BY_BLOCK | GROUPS_BY_BLOCK => Some(WORDS_BY_BLOCK),
+        _ => None,
+    }
+}
 
 /// Runs all blocks of the input on a chain: forward in order, or backward from the last.
 pub type Run = fn(chain: &mut [u8], input: &[u8]);
@@ -21,22 +38,32 @@ pub struct BlockPeer {
     pub backward: Run,
 }
 
-pub fn block_peers<W: Word>() -> [BlockPeer; 3] {
+pub fn block_peers<W: Word>() -> [BlockPeer; 5] {
     [
-        BlockPeer { name: MODULE, forward: module_forward::<W>, backward: module_backward::<W> },
-        BlockPeer { name: MODULE_BY_BLOCK, forward: calls_forward::<W>, backward: calls_backward::<W> },
+        at_one_go::<W, BY_WORDS>(WORDS),
+        at_one_go::<W, IN_GROUPS>(GROUPS),
+        block_by_block::<W, BY_WORDS>(WORDS_BY_BLOCK),
+        block_by_block::<W, IN_GROUPS>(GROUPS_BY_BLOCK),
         BlockPeer { name: REFERENCE, forward: reference_forward::<W>, backward: reference_backward::<W> },
     ]
 }
 
+fn at_one_go<W: Word, const ENGINE: u64>(name: &'static str) -> BlockPeer {
+    BlockPeer { name, forward: module_forward::<W, ENGINE>, backward: module_backward::<W, ENGINE> }
+}
+
+fn block_by_block<W: Word, const ENGINE: u64>(name: &'static str) -> BlockPeer {
+    BlockPeer { name, forward: calls_forward::<W, ENGINE>, backward: calls_backward::<W, ENGINE> }
+}
+
 /// One Append of the input to a record with this chain.
-fn module_forward<W: Word>(chain: &mut [u8], input: &[u8]) {
-    module_run::<W>(chain, 0, |record| append(record, input));
+fn module_forward<W: Word, const ENGINE: u64>(chain: &mut [u8], input: &[u8]) {
+    module_run::<W>(chain, 0, |record| append(ENGINE, record, input));
 }
 
 /// One Rewind of the input. One more block lies before it, so that any chain reached is taken.
-fn module_backward<W: Word>(chain: &mut [u8], input: &[u8]) {
-    module_run::<W>(chain, W::BLOCK_BYTES + input.len(), |record| rewind(record, 0, input));
+fn module_backward<W: Word, const ENGINE: u64>(chain: &mut [u8], input: &[u8]) {
+    module_run::<W>(chain, W::BLOCK_BYTES + input.len(), |record| rewind(ENGINE, record, 0, input));
 }
 
 fn module_run<W: Word>(chain: &mut [u8], total: usize, call: impl Fn(Record) -> Outcome) {
@@ -45,15 +72,15 @@ fn module_run<W: Word>(chain: &mut [u8], total: usize, call: impl Fn(Record) -> 
     lsh_ref::store_chain(&outcome.next.chain.map(W::from_u64), chain);
 }
 
-fn calls_forward<W: Word>(chain: &mut [u8], input: &[u8]) {
+fn calls_forward<W: Word, const ENGINE: u64>(chain: &mut [u8], input: &[u8]) {
     for block in input.chunks_exact(W::BLOCK_BYTES) {
-        assert_eq!(block_forward(W::BITS as u64, chain, block), ACCEPTED);
+        assert_eq!(block_forward(ENGINE, W::BITS as u64, chain, block), ACCEPTED);
     }
 }
 
-fn calls_backward<W: Word>(chain: &mut [u8], input: &[u8]) {
+fn calls_backward<W: Word, const ENGINE: u64>(chain: &mut [u8], input: &[u8]) {
     for block in input.chunks_exact(W::BLOCK_BYTES).rev() {
-        assert_eq!(block_backward(W::BITS as u64, chain, block), ACCEPTED);
+        assert_eq!(block_backward(ENGINE, W::BITS as u64, chain, block), ACCEPTED);
     }
 }
 
@@ -81,28 +108,28 @@ pub fn largest_roll<W: Word>() -> usize {
 }
 
 /// Word 0 of the chain of a new record after an Append of the input, with a new roll.
-pub fn module_append_roll<W: Word>(input: &[u8], roll: &mut [u8]) -> u64 {
-    let opened = open(W::BITS as u64, digest_bits::<W>()).next;
-    append_roll(opened, input, roll).next.chain[0]
+pub fn module_append_roll<W: Word>(engine: u64, input: &[u8], roll: &mut [u8]) -> u64 {
+    let opened = open(engine, W::BITS as u64, digest_bits::<W>()).next;
+    append_roll(engine, opened, input, roll).next.chain[0]
 }
 
 /// Word 0 of the chain of a new record after an Append of the input in pieces of 64 bytes.
-pub fn module_append_pieces<W: Word>(input: &[u8]) -> u64 {
-    let mut outcome = open(W::BITS as u64, digest_bits::<W>());
+pub fn module_append_pieces<W: Word>(engine: u64, input: &[u8]) -> u64 {
+    let mut outcome = open(engine, W::BITS as u64, digest_bits::<W>());
     for piece in input.chunks_exact(64) {
-        outcome = append(outcome.next, piece);
+        outcome = append(engine, outcome.next, piece);
     }
     outcome.next.chain[0]
 }
 
 /// Word 0 of the chain of a record after a Rewind of the input by a hand-back for each block, as a driver makes them. It
 /// begins with a chain of zeros and one block before the input.
-pub fn module_rewind_steps<W: Word>(input: &[u8]) -> u64 {
+pub fn module_rewind_steps<W: Word>(engine: u64, input: &[u8]) -> u64 {
     let mut outcome = begin(record::<W>(W::BLOCK_BYTES + input.len(), [0; 16]), &[]);
     for block in input.chunks_exact(W::BLOCK_BYTES).rev() {
-        outcome = hand_back(outcome.next, block);
+        outcome = hand_back(engine, outcome.next, block);
     }
-    end(outcome.next, 0).next.chain[0]
+    end(engine, outcome.next, 0).next.chain[0]
 }
 
 /// A record of whole blocks.
@@ -127,7 +154,8 @@ pub struct HashPeer {
 
 pub fn hash_peers<W: Word>() -> Vec<HashPeer> {
     let mut peers = vec![
-        HashPeer { name: MODULE, hash: module_hash::<W> },
+        HashPeer { name: WORDS, hash: module_hash::<W, BY_WORDS> },
+        HashPeer { name: GROUPS, hash: module_hash::<W, IN_GROUPS> },
         HashPeer { name: REFERENCE, hash: reference_hash::<W> },
     ];
     peers.extend(cryptopp::<W>().map(|hash| HashPeer { name: CRYPTOPP, hash }));
@@ -136,7 +164,10 @@ pub fn hash_peers<W: Word>() -> Vec<HashPeer> {
 
 /// lsh_ref has no tags.
 pub fn tag_peers<W: Word>() -> Vec<HashPeer> {
-    let mut peers = vec![HashPeer { name: MODULE, hash: module_tag::<W> }];
+    let mut peers = vec![
+        HashPeer { name: WORDS, hash: module_tag::<W, BY_WORDS> },
+        HashPeer { name: GROUPS, hash: module_tag::<W, IN_GROUPS> },
+    ];
     peers.extend(cryptopp_tag::<W>().map(|hash| HashPeer { name: CRYPTOPP, hash }));
     peers
 }
@@ -151,8 +182,8 @@ pub fn digest_part<W: Word>(receipt: &mut [u8; RECEIPT_BYTES]) -> &mut [u8] {
     &mut receipt[DIGEST_PLACE..][..W::BITS]
 }
 
-fn module_hash<W: Word>(message: &[u8], receipt: &mut [u8; RECEIPT_BYTES]) {
-    assert_eq!(whole(W::BITS as u64, digest_bits::<W>(), message, 0, 0, receipt), ACCEPTED);
+fn module_hash<W: Word, const ENGINE: u64>(message: &[u8], receipt: &mut [u8; RECEIPT_BYTES]) {
+    assert_eq!(whole(ENGINE, W::BITS as u64, digest_bits::<W>(), message, 0, 0, receipt), ACCEPTED);
 }
 
 fn reference_hash<W: Word>(message: &[u8], receipt: &mut [u8; RECEIPT_BYTES]) {
@@ -164,8 +195,9 @@ pub fn key<W: Word>() -> &'static [u8] {
     &[0xa7; 64][..W::BITS]
 }
 
-fn module_tag<W: Word>(message: &[u8], receipt: &mut [u8; RECEIPT_BYTES]) {
-    assert_eq!(tag(W::BITS as u64, digest_bits::<W>(), key::<W>(), message, digest_part::<W>(receipt)), ACCEPTED);
+fn module_tag<W: Word, const ENGINE: u64>(message: &[u8], receipt: &mut [u8; RECEIPT_BYTES]) {
+    let room = digest_part::<W>(receipt);
+    assert_eq!(tag(ENGINE, W::BITS as u64, digest_bits::<W>(), key::<W>(), message, room), ACCEPTED);
 }
 
 #[cfg(not(feature = "cryptopp"))]

@@ -1,5 +1,6 @@
 //! Tables with a row for each word size and peer.
 
+use crate::peers::on_words;
 use crate::timing::{Rates, Task};
 
 /// What a column shows of the peer of a row.
@@ -7,6 +8,8 @@ pub enum Column {
     Rate(&'static str),
     /// The rate of a kind of work, to that of another peer.
     OfPeer(&'static str, &'static str),
+    /// The rate of a kind of work by the module, to that of the same calls on the words.
+    OfWords(&'static str),
     /// The rate of a kind of work, to that of another kind by the same peer.
     OfWork(&'static str, &'static str),
 }
@@ -14,13 +17,14 @@ pub enum Column {
 impl Column {
     fn work(&self) -> &'static str {
         match *self {
-            Column::Rate(work) | Column::OfPeer(work, _) | Column::OfWork(work, _) => work,
+            Column::Rate(work) | Column::OfWords(work) | Column::OfPeer(work, _) | Column::OfWork(work, _) => work,
         }
     }
 
     fn heading(&self) -> String {
         match self {
             Column::Rate(work) => work.to_string(),
+            Column::OfWords(_) => "of words".to_string(),
             Column::OfPeer(_, other) | Column::OfWork(_, other) => format!("of {other}"),
         }
     }
@@ -30,6 +34,7 @@ impl Column {
         let task = Task { peer, work };
         match *self {
             Column::Rate(_) => number(rates.rate(w, task), 0),
+            Column::OfWords(_) => number(on_words(peer).and_then(|peer| rates.ratio(w, task, Task { peer, work })), 2),
             Column::OfPeer(_, other) => number(rates.ratio(w, task, Task { peer: other, work }), 2),
             Column::OfWork(_, other) => number(rates.ratio(w, task, Task { peer, work: other }), 2),
         }

@@ -2,7 +2,7 @@
 
 use crate::messages::{check_lengths, length_timings};
 use crate::peers::{digest_bits, key, tag_peers, CRYPTOPP};
-use crate::table::Column::{self, OfPeer, Rate};
+use crate::table::Column::{self, OfPeer, OfWords, Rate};
 use crate::timing::Timing;
 use lsh_ref::Word;
 
@@ -11,8 +11,14 @@ const TAG_64_BYTES: &str = "tag of 64 bytes";
 
 const LENGTHS: [(&str, usize); 2] = [(TAG_1_MIB, 1 << 20), (TAG_64_BYTES, 1 << 6)];
 
-pub const COLUMNS: [Column; 4] =
-    [Rate(TAG_1_MIB), OfPeer(TAG_1_MIB, CRYPTOPP), Rate(TAG_64_BYTES), OfPeer(TAG_64_BYTES, CRYPTOPP)];
+pub const COLUMNS: [Column; 6] = [
+    Rate(TAG_1_MIB),
+    OfWords(TAG_1_MIB),
+    OfPeer(TAG_1_MIB, CRYPTOPP),
+    Rate(TAG_64_BYTES),
+    OfWords(TAG_64_BYTES),
+    OfPeer(TAG_64_BYTES, CRYPTOPP),
+];
 
 /// Every peer gives the tag of RFC 2104 over lsh_ref for each length.
 pub fn check_peers<W: Word>(input: &[u8]) {

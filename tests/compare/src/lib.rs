@@ -1,17 +1,18 @@
 //! The module's calls for C as safe Rust functions, the program replay, and random bytes to try them on.
 //!
 //! Each call is declared and wrapped here alone. Nothing checks the declarations against the module: they repeat those
-//! of `include/lsh_kiosk.h`.
+//! of `include/lsh_kiosk.h`. No answer depends on the engine, so a test takes one at random for each call, or both in turn.
 
 mod replay;
 
+pub use model::engine::ENGINES;
 pub use model::receipts::{receipt, DIGEST_PLACE, LENGTH_PLACE, RECEIPT_BYTES};
 pub use model::record::{places, Outcome, Record};
 pub use model::rolls as roll;
 pub use model::script::hex;
 pub use model::till::{bit_length, MOST_BITS, MOST_RECEIPTS};
 pub use model::MOST_BYTES;
-pub use replay::{compare_text, program, record_line, sample, sample_record, set_line, Script};
+pub use replay::{compare_on_engines, compare_text, program, record_line, sample, sample_record, set_line, Script};
 
 use std::mem::offset_of;
 
@@ -54,12 +55,27 @@ mod c {
     use super::{Counts, Outcome, Record, Sameness};
 
     extern "C" {
-        pub fn lsh_block_forward(w: u64, chain: *mut u8, chain_len: usize, block: *const u8, block_len: usize) -> u32;
-        pub fn lsh_block_backward(w: u64, chain: *mut u8, chain_len: usize, block: *const u8, block_len: usize) -> u32;
-        pub fn lsh_open(w: u64, n: u64) -> Outcome;
-        pub fn lsh_append(r: Record, piece: *const u8, piece_len: usize) -> Outcome;
-        pub fn lsh_rewind(r: Record, keep: u64, h: *const u8, h_len: usize) -> Outcome;
+        pub fn lsh_block_forward(
+            engine: u64,
+            w: u64,
+            chain: *mut u8,
+            chain_len: usize,
+            block: *const u8,
+            block_len: usize,
+        ) -> u32;
+        pub fn lsh_block_backward(
+            engine: u64,
+            w: u64,
+            chain: *mut u8,
+            chain_len: usize,
+            block: *const u8,
+            block_len: usize,
+        ) -> u32;
+        pub fn lsh_open(engine: u64, w: u64, n: u64) -> Outcome;
+        pub fn lsh_append(engine: u64, r: Record, piece: *const u8, piece_len: usize) -> Outcome;
+        pub fn lsh_rewind(engine: u64, r: Record, keep: u64, h: *const u8, h_len: usize) -> Outcome;
         pub fn lsh_append_roll(
+            engine: u64,
             r: Record,
             piece: *const u8,
             piece_len: usize,
@@ -67,6 +83,7 @@ mod c {
             roll_len: usize,
         ) -> Outcome;
         pub fn lsh_rewind_roll(
+            engine: u64,
             r: Record,
             keep: u64,
             h: *const u8,
@@ -75,12 +92,13 @@ mod c {
             roll_len: usize,
         ) -> Outcome;
         pub fn lsh_begin(r: Record, bytes: *const u8, bytes_len: usize) -> Outcome;
-        pub fn lsh_hand_back(r: Record, block: *const u8, block_len: usize) -> Outcome;
-        pub fn lsh_end(r: Record, keep: u64) -> Outcome;
-        pub fn lsh_end_roll(r: Record, keep: u64, roll: *mut u8, roll_len: usize) -> Outcome;
+        pub fn lsh_hand_back(engine: u64, r: Record, block: *const u8, block_len: usize) -> Outcome;
+        pub fn lsh_end(engine: u64, r: Record, keep: u64) -> Outcome;
+        pub fn lsh_end_roll(engine: u64, r: Record, keep: u64, roll: *mut u8, roll_len: usize) -> Outcome;
         pub fn lsh_abandon(r: Record) -> Outcome;
-        pub fn lsh_close(r: Record, last: u8, e: u64, output: *mut u8, output_len: usize) -> u32;
+        pub fn lsh_close(engine: u64, r: Record, last: u8, e: u64, output: *mut u8, output_len: usize) -> u32;
         pub fn lsh_whole(
+            engine: u64,
             w: u64,
             n: u64,
             message: *const u8,
@@ -93,6 +111,7 @@ mod c {
         pub fn lsh_same(a: *const u8, a_len: usize, b: *const u8, b_len: usize) -> Sameness;
         pub fn lsh_tally(list: *const u8, list_len: usize) -> Counts;
         pub fn lsh_tag(
+            engine: u64,
             w: u64,
             n: u64,
             key: *const u8,
@@ -102,9 +121,17 @@ mod c {
             output: *mut u8,
             output_len: usize,
         ) -> u32;
-        pub fn lsh_tag_start(w: u64, n: u64, key: *const u8, key_len: usize) -> Outcome;
-        pub fn lsh_tag_finish(r: Record, key: *const u8, key_len: usize, output: *mut u8, output_len: usize) -> u32;
+        pub fn lsh_tag_start(engine: u64, w: u64, n: u64, key: *const u8, key_len: usize) -> Outcome;
+        pub fn lsh_tag_finish(
+            engine: u64,
+            r: Record,
+            key: *const u8,
+            key_len: usize,
+            output: *mut u8,
+            output_len: usize,
+        ) -> u32;
         pub fn lsh_tag_check(
+            engine: u64,
             w: u64,
             n: u64,
             key: *const u8,
@@ -118,46 +145,46 @@ mod c {
 }
 
 /// Runs one block forward on a chain.
-pub fn block_forward(w: u64, chain: &mut [u8], block: &[u8]) -> u32 {
+pub fn block_forward(engine: u64, w: u64, chain: &mut [u8], block: &[u8]) -> u32 {
     // SAFETY: each pointer comes with the length of its slice, and the slices cannot overlap. The call asks nothing
     // more, and keeps no pointer.
-    unsafe { c::lsh_block_forward(w, chain.as_mut_ptr(), chain.len(), block.as_ptr(), block.len()) }
+    unsafe { c::lsh_block_forward(engine, w, chain.as_mut_ptr(), chain.len(), block.as_ptr(), block.len()) }
 }
 
 /// Runs one block backward on a chain.
-pub fn block_backward(w: u64, chain: &mut [u8], block: &[u8]) -> u32 {
+pub fn block_backward(engine: u64, w: u64, chain: &mut [u8], block: &[u8]) -> u32 {
     // SAFETY: as in `block_forward`.
-    unsafe { c::lsh_block_backward(w, chain.as_mut_ptr(), chain.len(), block.as_ptr(), block.len()) }
+    unsafe { c::lsh_block_backward(engine, w, chain.as_mut_ptr(), chain.len(), block.as_ptr(), block.len()) }
 }
 
 /// Begins an order.
-pub fn open(w: u64, n: u64) -> Outcome {
-    // SAFETY: the call takes two numbers and asks nothing of them.
-    unsafe { c::lsh_open(w, n) }
+pub fn open(engine: u64, w: u64, n: u64) -> Outcome {
+    // SAFETY: the call takes three numbers and asks nothing of them.
+    unsafe { c::lsh_open(engine, w, n) }
 }
 
 /// Adds a piece to the end of an order.
-pub fn append(r: Record, piece: &[u8]) -> Outcome {
+pub fn append(engine: u64, r: Record, piece: &[u8]) -> Outcome {
     // SAFETY: as in `block_forward`; the record passes by value.
-    unsafe { c::lsh_append(r, piece.as_ptr(), piece.len()) }
+    unsafe { c::lsh_append(engine, r, piece.as_ptr(), piece.len()) }
 }
 
 /// Takes the bytes h off the end of an order, but for the first keep of them.
-pub fn rewind(r: Record, keep: u64, h: &[u8]) -> Outcome {
+pub fn rewind(engine: u64, r: Record, keep: u64, h: &[u8]) -> Outcome {
     // SAFETY: as in `append`.
-    unsafe { c::lsh_rewind(r, keep, h.as_ptr(), h.len()) }
+    unsafe { c::lsh_rewind(engine, r, keep, h.as_ptr(), h.len()) }
 }
 
 /// Adds a piece to the end of an order with a roll.
-pub fn append_roll(r: Record, piece: &[u8], roll: &mut [u8]) -> Outcome {
+pub fn append_roll(engine: u64, r: Record, piece: &[u8], roll: &mut [u8]) -> Outcome {
     // SAFETY: as in `append`.
-    unsafe { c::lsh_append_roll(r, piece.as_ptr(), piece.len(), roll.as_mut_ptr(), roll.len()) }
+    unsafe { c::lsh_append_roll(engine, r, piece.as_ptr(), piece.len(), roll.as_mut_ptr(), roll.len()) }
 }
 
 /// Takes the bytes h off the end of an order with a roll, but for the first keep of them.
-pub fn rewind_roll(r: Record, keep: u64, h: &[u8], roll: &mut [u8]) -> Outcome {
+pub fn rewind_roll(engine: u64, r: Record, keep: u64, h: &[u8], roll: &mut [u8]) -> Outcome {
     // SAFETY: as in `append`.
-    unsafe { c::lsh_rewind_roll(r, keep, h.as_ptr(), h.len(), roll.as_mut_ptr(), roll.len()) }
+    unsafe { c::lsh_rewind_roll(engine, r, keep, h.as_ptr(), h.len(), roll.as_mut_ptr(), roll.len()) }
 }
 
 /// Begins a split rewind with the held bytes.
@@ -167,21 +194,21 @@ pub fn begin(r: Record, bytes: &[u8]) -> Outcome {
 }
 
 /// Hands back one block in a split rewind.
-pub fn hand_back(r: Record, block: &[u8]) -> Outcome {
+pub fn hand_back(engine: u64, r: Record, block: &[u8]) -> Outcome {
     // SAFETY: as in `append`.
-    unsafe { c::lsh_hand_back(r, block.as_ptr(), block.len()) }
+    unsafe { c::lsh_hand_back(engine, r, block.as_ptr(), block.len()) }
 }
 
 /// Ends a split rewind; the first keep of the bytes handed back remain.
-pub fn end(r: Record, keep: u64) -> Outcome {
-    // SAFETY: the record and the number pass by value.
-    unsafe { c::lsh_end(r, keep) }
+pub fn end(engine: u64, r: Record, keep: u64) -> Outcome {
+    // SAFETY: the record and the numbers pass by value.
+    unsafe { c::lsh_end(engine, r, keep) }
 }
 
 /// Ends a split rewind of an order with a roll; the first keep of the bytes handed back remain.
-pub fn end_roll(r: Record, keep: u64, roll: &mut [u8]) -> Outcome {
+pub fn end_roll(engine: u64, r: Record, keep: u64, roll: &mut [u8]) -> Outcome {
     // SAFETY: as in `append`.
-    unsafe { c::lsh_end_roll(r, keep, roll.as_mut_ptr(), roll.len()) }
+    unsafe { c::lsh_end_roll(engine, r, keep, roll.as_mut_ptr(), roll.len()) }
 }
 
 /// Abandons a split rewind.
@@ -190,27 +217,28 @@ pub fn abandon(r: Record) -> Outcome {
     unsafe { c::lsh_abandon(r) }
 }
 
-/// Begins a split rewind with the held bytes at the end of h, and hands back its blocks from the last one on. All of it has to be taken.
-pub fn hand_back_all(r: Record, h: &[u8]) -> Record {
+/// Begins a split rewind with the held bytes at the end of h, and hands back its blocks from the last one on, each on some engine. All of it
+/// has to be taken.
+pub fn hand_back_all(r: Record, h: &[u8], random: &mut Random) -> Record {
     let blocks = h.chunks_exact(4 * r.w as usize);
     let taken = |outcome: Outcome| {
         assert_eq!((outcome.number, outcome.count), (ACCEPTED, 0));
         outcome.next
     };
     let begun = taken(begin(r, blocks.remainder()));
-    blocks.rev().fold(begun, |r, block| taken(hand_back(r, block)))
+    blocks.rev().fold(begun, |r, block| taken(hand_back(random.engine(), r, block)))
 }
 
 /// Writes the receipt of an order: its bytes, and then the top e bits of `last`.
-pub fn close(r: Record, last: u8, e: u64, output: &mut [u8]) -> u32 {
+pub fn close(engine: u64, r: Record, last: u8, e: u64, output: &mut [u8]) -> u32 {
     // SAFETY: as in `append`.
-    unsafe { c::lsh_close(r, last, e, output.as_mut_ptr(), output.len()) }
+    unsafe { c::lsh_close(engine, r, last, e, output.as_mut_ptr(), output.len()) }
 }
 
 /// Writes the receipt of a message: its bytes, and then the top e bits of `last`.
-pub fn whole(w: u64, n: u64, message: &[u8], last: u8, e: u64, output: &mut [u8]) -> u32 {
+pub fn whole(engine: u64, w: u64, n: u64, message: &[u8], last: u8, e: u64, output: &mut [u8]) -> u32 {
     // SAFETY: as in `block_forward`.
-    unsafe { c::lsh_whole(w, n, message.as_ptr(), message.len(), last, e, output.as_mut_ptr(), output.len()) }
+    unsafe { c::lsh_whole(engine, w, n, message.as_ptr(), message.len(), last, e, output.as_mut_ptr(), output.len()) }
 }
 
 /// Tells whether two receipts are the same.
@@ -226,29 +254,31 @@ pub fn tally(list: &[u8]) -> Counts {
 }
 
 /// Writes the tag of a message.
-pub fn tag(w: u64, n: u64, key: &[u8], message: &[u8], output: &mut [u8]) -> u32 {
+pub fn tag(engine: u64, w: u64, n: u64, key: &[u8], message: &[u8], output: &mut [u8]) -> u32 {
     let (key, key_len) = (key.as_ptr(), key.len());
     // SAFETY: as in `block_forward`.
-    unsafe { c::lsh_tag(w, n, key, key_len, message.as_ptr(), message.len(), output.as_mut_ptr(), output.len()) }
+    unsafe {
+        c::lsh_tag(engine, w, n, key, key_len, message.as_ptr(), message.len(), output.as_mut_ptr(), output.len())
+    }
 }
 
 /// Begins a tag over pieces: the record to append them to.
-pub fn tag_start(w: u64, n: u64, key: &[u8]) -> Outcome {
+pub fn tag_start(engine: u64, w: u64, n: u64, key: &[u8]) -> Outcome {
     // SAFETY: as in `block_forward`.
-    unsafe { c::lsh_tag_start(w, n, key.as_ptr(), key.len()) }
+    unsafe { c::lsh_tag_start(engine, w, n, key.as_ptr(), key.len()) }
 }
 
 /// Writes the tag of the pieces that were appended.
-pub fn tag_finish(r: Record, key: &[u8], output: &mut [u8]) -> u32 {
+pub fn tag_finish(engine: u64, r: Record, key: &[u8], output: &mut [u8]) -> u32 {
     // SAFETY: as in `append`.
-    unsafe { c::lsh_tag_finish(r, key.as_ptr(), key.len(), output.as_mut_ptr(), output.len()) }
+    unsafe { c::lsh_tag_finish(engine, r, key.as_ptr(), key.len(), output.as_mut_ptr(), output.len()) }
 }
 
 /// Tells whether a tag is that of a message.
-pub fn tag_check(w: u64, n: u64, key: &[u8], message: &[u8], tag: &[u8]) -> Sameness {
+pub fn tag_check(engine: u64, w: u64, n: u64, key: &[u8], message: &[u8], tag: &[u8]) -> Sameness {
     let (key, key_len) = (key.as_ptr(), key.len());
     // SAFETY: as in `block_forward`.
-    unsafe { c::lsh_tag_check(w, n, key, key_len, message.as_ptr(), message.len(), tag.as_ptr(), tag.len()) }
+    unsafe { c::lsh_tag_check(engine, w, n, key, key_len, message.as_ptr(), message.len(), tag.as_ptr(), tag.len()) }
 }
 
 /// A test at each word size.
@@ -290,6 +320,10 @@ impl Random {
 
     pub fn one_of<T: Copy, const N: usize>(&mut self, choices: [T; N]) -> T {
         choices[self.below(N as u64) as usize]
+    }
+
+    pub fn engine(&mut self) -> u64 {
+        self.one_of(ENGINES)
     }
 
     /// A last byte that goes with e: its low 8 - e bits are 0.

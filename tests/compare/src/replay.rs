@@ -1,6 +1,6 @@
 //! The program replay, which makes the calls of a script, and the scripts that are compared with what the model answers.
 
-use crate::{hex, places, Record};
+use crate::{hex, places, Random, Record};
 use model::script::{fields, Program};
 use std::env;
 use std::io::Write as _;
@@ -57,6 +57,11 @@ impl Script {
         assert_eq!(self.line(line), Some(answer.as_ref()), "what the model answers to {line}");
     }
 
+    /// A line that chooses some engine for the calls after it.
+    pub fn engine(&mut self, random: &mut Random) {
+        self.call(format!("engine {}", random.engine()), "engine");
+    }
+
     /// A line that is no call.
     pub fn no_call(&mut self, line: &str) {
         let answer = self.line(line).unwrap_or_default();
@@ -82,11 +87,26 @@ impl Script {
     }
 }
 
-/// Compares what the program prints for a text, as `Script::text` has it, with what the model prints.
+/// Compares what the program prints for a text, as `Script::text` has it, with what the model prints: as it stands, and on changing engines.
 pub fn compare_text(text: &str) {
     let mut script = Script::default();
     script.text(text);
     script.compare("a script by hand");
+
+    let text = expanded(text);
+    let lines: Vec<&str> = text.lines().map(|line| line.split(" => ").next().unwrap()).collect();
+    compare_on_engines(&lines.join("\n"), "a script by hand");
+}
+
+/// The same for a script, with an engine at random before each of its lines. These lines are counted too, so that faults have other numbers.
+pub fn compare_on_engines(lines: &str, what: &str) {
+    let mut random = Random::new(lines.len() as u64);
+    let mut script = Script::default();
+    for line in lines.split('\n') {
+        script.engine(&mut random);
+        script.line(line);
+    }
+    script.compare(&format!("{what}, on changing engines"));
 }
 
 /// The text with the digits of what stands in brackets.

@@ -1,7 +1,9 @@
-//! The block runs of the module against those of lsh_ref, and their refusals: through the archive, and some through the program replay.
+//! The block runs of each engine of the module against those of lsh_ref, and their refusals: through the archive, and some through the
+//! program replay.
 
 use compare::{
     at_both_word_sizes, block_backward, block_forward, hex, Random, Script, ACCEPTED, BAD_LENGTH, BAD_WORD_SIZE,
+    ENGINES,
 };
 use lsh_ref::Word;
 
@@ -12,7 +14,7 @@ at_both_word_sizes! { random_blocks patterns }
 /// One direction: the module's call and the run of lsh_ref.
 struct Direction<W: Word> {
     name: &'static str,
-    call: fn(u64, &mut [u8], &[u8]) -> u32,
+    call: fn(u64, u64, &mut [u8], &[u8]) -> u32,
     reference: fn(&[W; 16], &[u8]) -> [W; 16],
 }
 
@@ -23,20 +25,23 @@ fn directions<W: Word>() -> [Direction<W>; 2] {
     ]
 }
 
-/// Runs a block on a chain in both directions, with the module and with lsh_ref.
+/// Runs a block on a chain in both directions, with each engine of the module and with lsh_ref.
 fn compare_runs<W: Word>(chain: &[u8], block: &[u8]) {
     for direction in directions::<W>() {
         let mut expected = vec![0; W::CHAIN_BYTES];
         lsh_ref::store_chain(&(direction.reference)(&lsh_ref::load_chain(chain), block), &mut expected);
 
-        let mut lent = chain.to_vec();
-        let answer = (direction.call)(W::BITS as u64, &mut lent, block);
-        assert!(
-            answer == ACCEPTED && lent == expected,
-            "{}, w = {}: answer {answer}\nchain {chain:02x?}\nblock {block:02x?}\nreached {lent:02x?}\nlsh_ref {expected:02x?}",
-            direction.name,
-            W::BITS
-        );
+        for engine in ENGINES {
+            let mut lent = chain.to_vec();
+            let answer = (direction.call)(engine, W::BITS as u64, &mut lent, block);
+            assert!(
+                answer == ACCEPTED && lent == expected,
+                "engine {engine}, {}, w = {}: answer {answer}\n\
+                 chain {chain:02x?}\nblock {block:02x?}\nreached {lent:02x?}\nlsh_ref {expected:02x?}",
+                direction.name,
+                W::BITS
+            );
+        }
     }
 }
 
@@ -86,7 +91,7 @@ fn refusals() {
                 let block = random.bytes(block_len);
                 for call in [block_forward, block_backward] {
                     let mut lent = chain.clone();
-                    let answer = call(w, &mut lent, &block);
+                    let answer = call(random.engine(), w, &mut lent, &block);
                     assert_eq!(answer, right, "w = {w}, chain of {chain_len} bytes, block of {block_len}");
                     assert_eq!(lent, chain, "w = {w}, chain of {chain_len} bytes, block of {block_len}");
                 }
@@ -104,7 +109,10 @@ fn lines() {
         for chain_len in [0, 63, 64, 65, 127, 128, 129] {
             for block_len in [0, 127, 128, 129, 255, 256, 257] {
                 let (chain, block) = (hex(&random.bytes(chain_len)), hex(&random.bytes(block_len)));
-                script.text(&format!("forward {w} {chain} {block}\nbackward {w} {chain} {block}\n"));
+                for name in ["forward", "backward"] {
+                    script.engine(&mut random);
+                    script.text(&format!("{name} {w} {chain} {block}"));
+                }
             }
         }
     }

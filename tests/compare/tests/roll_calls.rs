@@ -1,5 +1,5 @@
 //! Single calls with a roll, on any record with no split rewind begun and with any buffer, against the model: through the archive, and those
-//! with small rolls once more through the program replay. Each Rewind is also made in steps.
+//! with small rolls once more through the program replay, each call on an engine at random. Each Rewind is also made in steps.
 
 use compare::roll::{self, CHECKPOINT_BLOCKS, MOST_SLOTS};
 use compare::{
@@ -62,7 +62,7 @@ impl Calls {
     fn append(&mut self, r: &Record, piece: &[u8], roll: &[u8]) -> u32 {
         let (right, due) = roll::append_roll(r, piece, roll);
         let mut lent = Lent::new(roll);
-        let outcome = compare::append_roll(*r, piece, lent.roll());
+        let outcome = compare::append_roll(self.random.engine(), *r, piece, lent.roll());
         assert_eq!(outcome, right);
         let after = match right.number {
             ACCEPTED => roll::inserted(r.w, roll, &roll::taken(r.w, roll, lent.roll()), &due),
@@ -76,7 +76,7 @@ impl Calls {
     fn rewind(&mut self, r: &Record, keep: u64, h: &[u8], roll: &[u8]) -> u32 {
         let (right, after) = roll::rewind_roll(r, keep, h, roll);
         let mut lent = Lent::new(roll);
-        let outcome = compare::rewind_roll(*r, keep, h, lent.roll());
+        let outcome = compare::rewind_roll(self.random.engine(), *r, keep, h, lent.roll());
         assert_eq!(outcome, right);
         lent.assert_is(&after, "a Rewind");
         self.script(r, roll, format!("rewindroll {keep} {}", hex(h)), "rewindroll", &right, &after);
@@ -88,10 +88,10 @@ impl Calls {
 
     /// The end gives what one Rewind over the same bytes gives.
     fn rewind_in_steps(&mut self, r: &Record, keep: u64, h: &[u8], roll: &[u8], one: Outcome, after: &[u8]) {
-        let begun = hand_back_all(*r, h);
+        let begun = hand_back_all(*r, h, &mut self.random);
         let right = if one.number == ACCEPTED { one } else { Outcome::refused(one.number, &begun) };
         let mut lent = Lent::new(roll);
-        assert_eq!(compare::end_roll(begun, keep, lent.roll()), right);
+        assert_eq!(compare::end_roll(self.random.engine(), begun, keep, lent.roll()), right);
         lent.assert_is(after, "an end");
         self.script(&begun, roll, format!("endroll {keep}"), "endroll", &right, after);
     }
@@ -107,6 +107,7 @@ impl Calls {
         if roll.len() <= LONG_ROLL {
             self.script.call(set_line(r), "set");
             self.script.call(format!("rollset {}", hex(roll)), "rollset");
+            self.script.engine(&mut self.random);
             self.script.call(line, format!("{name} {} {}", right.number, right.count));
             self.script.call("record", record_line(&right.next));
             self.script.call("showroll", format!("showroll {}", hex(after)));

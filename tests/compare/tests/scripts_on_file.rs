@@ -1,5 +1,7 @@
-//! The scripts on file: the answers that stand beside each are those of the model. tests/programs/run holds the program replay to them.
+//! The scripts on file: the answers that stand beside each are those of the model, and replay answers as the model where the engine changes
+//! between their lines. tests/programs/run holds the program replay to the answers that stand there.
 
+use compare::compare_on_engines;
 use model::script::Program;
 use std::fs;
 use std::path::{Path, PathBuf};
@@ -19,5 +21,12 @@ fn answers_are_those_of_the_model() {
         let right = Program::answers(&fs::read(&script).unwrap());
         let stored = fs::read_to_string(&answers).unwrap_or_else(|error| panic!("{}: {error}", answers.display()));
         assert_eq!(stored.lines().collect::<Vec<_>>(), right, "{}", answers.display());
+    }
+}
+
+#[test]
+fn on_changing_engines() {
+    for (script, _) in scripts() {
+        compare_on_engines(&fs::read_to_string(&script).unwrap(), &script.display().to_string());
     }
 }

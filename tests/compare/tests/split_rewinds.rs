@@ -1,5 +1,6 @@
 //! Split rewinds: lists that mix their steps with the other calls, ends against one Rewind over the same bytes, and single steps on forged
-//! records against the model. Lists and forged records go through the archive and once more through the program replay.
+//! records against the model. Lists and forged records go through the archive and once more through the program replay. Each call is made on
+//! an engine at random.
 
 mod forged;
 mod list;
@@ -58,32 +59,33 @@ fn ends_and_one_rewind<W: Word>() {
                 other[random.below((blocks * block) as u64) as usize] ^= 1 << random.below(8);
             }
             let n = 1 + random.below(8 * W::BITS as u64);
-            compare_ends::<W>(n, &bytes, &bytes);
-            compare_ends::<W>(n, &bytes, &other);
+            compare_ends::<W>(n, &bytes, &bytes, &mut random);
+            compare_ends::<W>(n, &bytes, &other, &mut random);
         }
     }
 }
 
 /// An order, of which other bytes may be handed back; the end is tried after some of the hand-backs.
-fn compare_ends<W: Word>(n: u64, bytes: &[u8], handed_back: &[u8]) {
+fn compare_ends<W: Word>(n: u64, bytes: &[u8], handed_back: &[u8], random: &mut Random) {
     let w = W::BITS as u64;
     let whole = bytes.len() / W::BLOCK_BYTES;
     let mut roll = roll::new_roll(w, 1 + whole / CHECKPOINT_BLOCKS);
-    let order = compare::append_roll(compare::open(w, n).next, bytes, &mut roll).next;
+    let opened = compare::open(random.engine(), w, n).next;
+    let order = compare::append_roll(random.engine(), opened, bytes, &mut roll).next;
     let mut begun = compare::begin(order, &handed_back[whole * W::BLOCK_BYTES..]).next;
     for number in 0..=whole {
         let h = &handed_back[(whole - number) * W::BLOCK_BYTES..];
         if number > 0 {
-            begun = compare::hand_back(begun, &h[..W::BLOCK_BYTES]).next;
+            begun = compare::hand_back(random.engine(), begun, &h[..W::BLOCK_BYTES]).next;
         }
         if number < 3 || number % 32 < 2 || number + 1 >= whole {
-            compare_end::<W>(bytes, &order, &begun, h, &roll);
+            compare_end::<W>(bytes, &order, &begun, h, &roll, random);
         }
     }
 }
 
 /// The end against one Rewind over the bytes handed back, for each number of bytes to keep at which something changes.
-fn compare_end<W: Word>(bytes: &[u8], order: &Record, begun: &Record, h: &[u8], roll: &[u8]) {
+fn compare_end<W: Word>(bytes: &[u8], order: &Record, begun: &Record, h: &[u8], roll: &[u8], random: &mut Random) {
     let block = W::BLOCK_BYTES;
     let start = bytes.len() - h.len();
     let held = h.len() % block;
@@ -96,18 +98,18 @@ fn compare_end<W: Word>(bytes: &[u8], order: &Record, begun: &Record, h: &[u8], 
         } else {
             ACCEPTED
         };
-        let one = compare::rewind(*order, keep as u64, h);
+        let one = compare::rewind(random.engine(), *order, keep as u64, h);
         assert_eq!(one.number, number, "{} bytes, {keep} of {} kept", bytes.len(), h.len());
         if number == ACCEPTED && *h == bytes[start..] {
             assert_eq!(one.next, Record::of(order.w, order.n, &bytes[..start + keep]));
         }
         // A refused step leaves the state before it.
         let as_end = |one: Outcome| if one.number == ACCEPTED { one } else { Outcome::refused(one.number, begun) };
-        assert_eq!(compare::end(*begun, keep as u64), as_end(one));
+        assert_eq!(compare::end(random.engine(), *begun, keep as u64), as_end(one));
         for (roll, right) in [(roll, one), (short, Outcome::refused(BAD_ROLL, order))] {
             let (mut of_rewind, mut of_end) = (roll.to_vec(), roll.to_vec());
-            assert_eq!(compare::rewind_roll(*order, keep as u64, h, &mut of_rewind), right);
-            assert_eq!(compare::end_roll(*begun, keep as u64, &mut of_end), as_end(right));
+            assert_eq!(compare::rewind_roll(random.engine(), *order, keep as u64, h, &mut of_rewind), right);
+            assert_eq!(compare::end_roll(random.engine(), *begun, keep as u64, &mut of_end), as_end(right));
             assert!(of_end == of_rewind, "the roll after an end");
         }
     }
@@ -130,18 +132,18 @@ struct Given<'a> {
 }
 
 /// Makes a call, and gives the rest of its line in a script too.
-fn make(name: &str, r: Record, given: &Given, roll: &mut [u8]) -> (String, Outcome) {
+fn make(name: &str, engine: u64, r: Record, given: &Given, roll: &mut [u8]) -> (String, Outcome) {
     let Given { keep, bytes, .. } = *given;
     let digits = hex(bytes);
     match name {
-        "append" => (format!(" {digits}"), compare::append(r, bytes)),
-        "rewind" => (format!(" {keep} {digits}"), compare::rewind(r, keep, bytes)),
-        "appendroll" => (format!(" {digits}"), compare::append_roll(r, bytes, roll)),
-        "rewindroll" => (format!(" {keep} {digits}"), compare::rewind_roll(r, keep, bytes, roll)),
+        "append" => (format!(" {digits}"), compare::append(engine, r, bytes)),
+        "rewind" => (format!(" {keep} {digits}"), compare::rewind(engine, r, keep, bytes)),
+        "appendroll" => (format!(" {digits}"), compare::append_roll(engine, r, bytes, roll)),
+        "rewindroll" => (format!(" {keep} {digits}"), compare::rewind_roll(engine, r, keep, bytes, roll)),
         "begin" => (format!(" {digits}"), compare::begin(r, bytes)),
-        "handback" => (format!(" {digits}"), compare::hand_back(r, bytes)),
-        "end" => (format!(" {keep}"), compare::end(r, keep)),
-        "endroll" => (format!(" {keep}"), compare::end_roll(r, keep, roll)),
+        "handback" => (format!(" {digits}"), compare::hand_back(engine, r, bytes)),
+        "end" => (format!(" {keep}"), compare::end(engine, r, keep)),
+        "endroll" => (format!(" {keep}"), compare::end_roll(engine, r, keep, roll)),
         "abandon" => (String::new(), compare::abandon(r)),
         _ => panic!("a call {name}"),
     }
@@ -167,22 +169,27 @@ fn right(name: &str, r: &Record, given: &Given) -> (Outcome, Vec<u8>) {
 }
 
 /// The calls on forged records as they are made, and the record and the roll that the program has.
-#[derive(Default)]
 struct Calls {
+    engines: Random,
     script: Script,
     program: Option<(Record, Vec<u8>)>,
 }
 
 impl Calls {
+    fn new(seed: u64) -> Calls {
+        Calls { engines: Random::new(seed), script: Script::default(), program: None }
+    }
+
     /// Makes the call and compares all of it; gives the number of its answer.
     fn call(&mut self, name: &str, r: &Record, given: &Given) -> u32 {
         let (right, after) = right(name, r, given);
         let mut roll = given.roll.to_vec();
-        let (rest, outcome) = make(name, *r, given, &mut roll);
+        let (rest, outcome) = make(name, self.engines.engine(), *r, given, &mut roll);
         assert_eq!(outcome, right, "{name} on {r:?}");
         assert!(roll == after, "the roll after {name}");
 
         self.set(r, given.roll);
+        self.script.engine(&mut self.engines);
         self.script.call(format!("{name}{rest}"), format!("{name} {} {}", right.number, right.count));
         self.program = Some((right.next, after));
         right.number
@@ -195,9 +202,10 @@ impl Calls {
             Err(number) => (number, UNTOUCHED.to_vec()),
         };
         let mut written = UNTOUCHED;
-        assert_eq!(compare::close(*r, 0, 0, &mut written), number, "close on {r:?}");
+        assert_eq!(compare::close(self.engines.engine(), *r, 0, 0, &mut written), number, "close on {r:?}");
         assert_eq!(written[..], output);
         self.set(r, roll);
+        self.script.engine(&mut self.engines);
         self.script.call(format!("close 00 0 {}", UNTOUCHED.len()), format!("close {number} {}", hex(&output)));
         number
     }
@@ -230,7 +238,7 @@ impl Calls {
 fn unsound_records<W: Word>() {
     let w = W::BITS as u64;
     let mut random = Random::new(29 * w);
-    let mut calls = Calls::default();
+    let mut calls = Calls::new(w);
     let roll = roll::new_roll(w, 1);
     for total in [0, 5, 2 * W::BLOCK_BYTES + 5, MOST_BYTES as usize] {
         let block = random.bytes(W::BLOCK_BYTES);
@@ -258,7 +266,7 @@ fn unsound_records<W: Word>() {
 fn records_of_no_order<W: Word>() {
     let w = W::BITS as u64;
     let mut random = Random::new(31 * w);
-    let mut calls = Calls::default();
+    let mut calls = Calls::new(w);
     let mut numbers = Vec::new();
     for _ in 0..80 {
         let mut r = forged_record::<W>(&mut random);

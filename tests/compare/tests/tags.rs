@@ -200,7 +200,8 @@ fn other_digest_lengths<W: Word>() {
     let mut calls = Calls::new(47 * w);
     for n in (1..=8 * w).filter(|n| !n.is_multiple_of(8)) {
         let (key, message) = (calls.some_bytes(), calls.some_bytes());
-        calls.set(compare::open(w, n).next);
+        let opened = compare::open(calls.random.engine(), w, n);
+        calls.set(opened.next);
         assert_eq!(calls.append(&message), ACCEPTED);
         try_finish(&mut calls, &key, &Err(NO_WHOLE_BYTES));
     }
@@ -314,7 +315,8 @@ fn go_to<W: Word>(calls: &mut Calls, n: u64, hashed: &mut Vec<u8>, length: usize
 fn finish_begun<W: Word>(calls: &mut Calls, hashed: &[u8], key: &[u8], right: &Answer<Vec<u8>>) {
     let r = calls.record;
     let left = calls.random.below((hashed.len() / W::BLOCK_BYTES) as u64 + 1) as usize;
-    calls.set(hand_back_all(r, &hashed[left * W::BLOCK_BYTES..]));
+    let begun = hand_back_all(r, &hashed[left * W::BLOCK_BYTES..], &mut calls.random);
+    calls.set(begun);
     calls.finish(key, ROOM, right);
     calls.set(r);
 }

@@ -277,7 +277,8 @@ fn try_blanks<W: Word>(calls: &mut Calls, random: &mut Random) {
         let digest = lsh_ref::hash_bits::<W>(n, &[], 0, 0);
         let blank: Receipt = compare::receipt(w, n, &digest, 0).try_into().unwrap();
         let mut written = [0; RECEIPT_BYTES];
-        assert_eq!((compare::whole(w, n, &[], 0, 0, &mut written), written), (ACCEPTED, blank), "w = {w}, n = {n}");
+        let answer = compare::whole(random.engine(), w, n, &[], 0, 0, &mut written);
+        assert_eq!((answer, written), (ACCEPTED, blank), "w = {w}, n = {n}");
 
         let other = receipt(w, n, 0, random);
         calls.tally_bytes(&[blank, other, blank].concat(), Counts { blanks: 3, ..NO_COUNTS });

@@ -89,7 +89,8 @@ fn lengths_read_back<W: Word>() {
                 let message = random.bytes(message_len as usize);
                 let n = random_digest_length::<W>(&mut random);
                 let mut output = [0xa5; RECEIPT_BYTES];
-                assert_eq!(whole(W::BITS as u64, n, &message, random.last_byte(e), e, &mut output), ACCEPTED);
+                let (engine, last) = (random.engine(), random.last_byte(e));
+                assert_eq!(whole(engine, W::BITS as u64, n, &message, last, e, &mut output), ACCEPTED);
                 assert_eq!(bit_length(&output), 8 * message_len + e);
             }
         }

@@ -1,5 +1,5 @@
 //! Lists of calls on an order, with a roll or without, against the plain tape and lsh_ref: each list through the archive's calls, and once
-//! more through the program replay. After every call the record is that of the tape, Close gives the receipt of its bytes, the roll shows the
+//! more through the program replay, each call on an engine at random. After every call the record is that of the tape, Close gives the receipt of its bytes, the roll shows the
 //! chains of its checkpoints and differs from the roll before the call only where document 02 says so, and the blocks run forward are those
 //! run backward and the whole blocks of the tape.
 
@@ -56,7 +56,7 @@ impl<'a, W: Word> List<'a, W> {
 
     pub fn new(kind: Kind, random: &'a mut Random) -> List<'a, W> {
         let n = 1 + random.below(8 * Self::W);
-        let opened = compare::open(Self::W, n);
+        let opened = compare::open(random.engine(), Self::W, n);
         let mut list = List {
             kind,
             n,
@@ -95,9 +95,9 @@ impl<'a, W: Word> List<'a, W> {
     }
 
     fn append_call(&mut self, piece: &[u8], answer: Answer) {
-        self.call(format!("append{} {}", self.suffix(), hex(piece)), answer, |r, roll| match roll {
-            Some(roll) => compare::append_roll(r, piece, roll),
-            None => compare::append(r, piece),
+        self.call(format!("append{} {}", self.suffix(), hex(piece)), answer, |engine, r, roll| match roll {
+            Some(roll) => compare::append_roll(engine, r, piece, roll),
+            None => compare::append(engine, r, piece),
         });
     }
 
@@ -110,9 +110,9 @@ impl<'a, W: Word> List<'a, W> {
     }
 
     fn rewind_call(&mut self, keep: u64, h: &[u8], answer: Answer) {
-        self.call(format!("rewind{} {keep} {}", self.suffix(), hex(h)), answer, |r, roll| match roll {
-            Some(roll) => compare::rewind_roll(r, keep, h, roll),
-            None => compare::rewind(r, keep, h),
+        self.call(format!("rewind{} {keep} {}", self.suffix(), hex(h)), answer, |engine, r, roll| match roll {
+            Some(roll) => compare::rewind_roll(engine, r, keep, h, roll),
+            None => compare::rewind(engine, r, keep, h),
         });
     }
 
@@ -124,7 +124,7 @@ impl<'a, W: Word> List<'a, W> {
     }
 
     fn begin_call(&mut self, bytes: &[u8], answer: Answer) {
-        self.call(format!("begin {}", hex(bytes)), answer, |r, _| compare::begin(r, bytes));
+        self.call(format!("begin {}", hex(bytes)), answer, |_, r, _| compare::begin(r, bytes));
     }
 
     /// Hands back the last whole block that is left, or some block if none is.
@@ -136,7 +136,7 @@ impl<'a, W: Word> List<'a, W> {
 
     fn hand_back_call(&mut self, block: &[u8]) {
         let answer = self.tape.hand_back(block.len());
-        self.call(format!("handback {}", hex(block)), answer, |r, _| compare::hand_back(r, block));
+        self.call(format!("handback {}", hex(block)), answer, |engine, r, _| compare::hand_back(engine, r, block));
     }
 
     fn end(&mut self, keep: u64) {
@@ -146,9 +146,9 @@ impl<'a, W: Word> List<'a, W> {
     }
 
     fn end_call(&mut self, keep: u64, answer: Answer) {
-        self.call(format!("end{} {keep}", self.suffix()), answer, |r, roll| match roll {
-            Some(roll) => compare::end_roll(r, keep, roll),
-            None => compare::end(r, keep),
+        self.call(format!("end{} {keep}", self.suffix()), answer, |engine, r, roll| match roll {
+            Some(roll) => compare::end_roll(engine, r, keep, roll),
+            None => compare::end(engine, r, keep),
         });
     }
 
@@ -158,7 +158,7 @@ impl<'a, W: Word> List<'a, W> {
     }
 
     fn abandon_call(&mut self, answer: Answer) {
-        self.call("abandon".to_string(), answer, |r, _| compare::abandon(r));
+        self.call("abandon".to_string(), answer, |_, r, _| compare::abandon(r));
     }
 
     /// What the names of the lines with a roll end in.
@@ -171,10 +171,10 @@ impl<'a, W: Word> List<'a, W> {
     }
 
     /// Makes a call, which has this answer, and compares all that it leaves with the tape after it.
-    fn call(&mut self, line: String, answer: Answer, make: impl FnOnce(Record, Option<&mut [u8]>) -> Outcome) {
+    fn call(&mut self, line: String, answer: Answer, make: impl FnOnce(u64, Record, Option<&mut [u8]>) -> Outcome) {
         let name = line.split(' ').next().unwrap().to_string();
         let before = self.roll.clone();
-        let outcome = make(self.record, self.roll.as_deref_mut());
+        let outcome = make(self.random.engine(), self.record, self.roll.as_deref_mut());
         assert_eq!(Answer { number: outcome.number, count: outcome.count as usize }, answer, "{name}");
         self.follow_tape();
         assert!(outcome.next == self.tape_record(), "the record after {name}, {answer:?}");
@@ -185,6 +185,7 @@ impl<'a, W: Word> List<'a, W> {
             assert!(*after == right, "the roll after {name}, {answer:?}");
         }
         assert_eq!(self.forward, self.backward + self.tape.whole_blocks());
+        self.script.engine(self.random);
         self.script.call(line, format!("{name} {} {}", answer.number, answer.count));
         self.compare_receipt();
         if self.roll.as_ref().is_some_and(|roll| roll.len() <= LONG_ROLL) || self.below(16) == 0 {
@@ -248,7 +249,8 @@ impl<'a, W: Word> List<'a, W> {
         let output = self.compare_close(last, e, &digest);
         if self.kind.steps {
             let mut written = UNTOUCHED;
-            assert_eq!(compare::whole(Self::W, self.n, &self.tape.bytes, last, e, &mut written), ACCEPTED);
+            let engine = self.random.engine();
+            assert_eq!(compare::whole(engine, Self::W, self.n, &self.tape.bytes, last, e, &mut written), ACCEPTED);
             assert_eq!(output, written);
         }
         if self.kind.steps && self.below(4) == 0 {
@@ -258,17 +260,18 @@ impl<'a, W: Word> List<'a, W> {
     }
 
     /// Close leaves the receipt of the tape's bytes and e bits more, which have this digest, and gives the output after it.
-    fn compare_close(&self, last: u8, e: u64, digest: &[u8]) -> Vec<u8> {
+    fn compare_close(&mut self, last: u8, e: u64, digest: &[u8]) -> Vec<u8> {
         let bits = 8 * self.tape.bytes.len() as u64 + e;
         let right = [receipt(Self::W, self.n, digest, bits), UNTOUCHED[RECEIPT_BYTES..].to_vec()].concat();
         let mut output = UNTOUCHED;
-        assert_eq!(compare::close(self.record, last, e, &mut output), ACCEPTED);
+        assert_eq!(compare::close(self.random.engine(), self.record, last, e, &mut output), ACCEPTED);
         assert_eq!(output[..], right);
         assert_eq!(bit_length(&output), bits);
         right
     }
 
     fn script_close(&mut self, last: u8, e: u64, output: &[u8]) {
+        self.script.engine(self.random);
         self.script.call(format!("close {last:02x} {e} {}", UNTOUCHED.len()), format!("close 0 {}", hex(output)));
     }
 
@@ -489,15 +492,17 @@ impl<'a, W: Word> List<'a, W> {
         let Some(h) = self.other_order().filter(|_| self.tape.begun.is_none()) else {
             return;
         };
-        self.record = hand_back_all(self.record, &h);
+        self.record = hand_back_all(self.record, &h, self.random);
         self.script.call(set_line(&self.record), "set");
         let mut roll = self.roll.clone();
+        let engine = self.random.engine();
         let outcome = match &mut roll {
-            Some(roll) => compare::end_roll(self.record, 0, roll),
-            None => compare::end(self.record, 0),
+            Some(roll) => compare::end_roll(engine, self.record, 0, roll),
+            None => compare::end(engine, self.record, 0),
         };
         assert!(outcome == Outcome::refused(9, &self.record) && roll == self.roll, "{}", outcome.number);
         let name = format!("end{}", self.suffix());
+        self.script.engine(self.random);
         self.script.call(format!("{name} 0"), format!("{name} 9 0"));
         self.abandon_call(Answer::accepted(0));
     }

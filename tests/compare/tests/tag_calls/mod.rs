@@ -1,5 +1,5 @@
 //! The calls for tags: what they have to answer, by the model, and each call through the archive with the script that makes it once more
-//! through the program replay.
+//! through the program replay, both on an engine at random.
 
 use compare::{hex, record_line, set_line, Outcome, Random, Record, Sameness, Script, ACCEPTED};
 use model::script::verdict;
@@ -66,12 +66,13 @@ impl Calls {
     pub fn tag(&mut self, given: &Given, room: usize, right: &Answer<Vec<u8>>) {
         let Given { w, n, key, message } = *given;
         let line = format!("tag {w} {n} {} {}", hex(key), hex(message));
-        self.write(line, room, right, |output| compare::tag(w, n, key, message, output));
+        self.write(line, room, right, |engine, output| compare::tag(engine, w, n, key, message, output));
     }
 
     pub fn finish(&mut self, key: &[u8], room: usize, right: &Answer<Vec<u8>>) {
         let r = self.record;
-        self.write(format!("tagfinish {}", hex(key)), room, right, |output| compare::tag_finish(r, key, output));
+        let line = format!("tagfinish {}", hex(key));
+        self.write(line, room, right, |engine, output| compare::tag_finish(engine, r, key, output));
     }
 
     pub fn check(&mut self, given: &Given, tag: &[u8], right: Answer<bool>) {
@@ -79,22 +80,24 @@ impl Calls {
         let line = format!("tagcheck {w} {n} {} {} {}", hex(key), hex(message), hex(tag));
         assert_eq!(tags::tag_check(w, n, key, message, tag), right, "{line}");
         let same = Sameness { number: right.err().unwrap_or(ACCEPTED), same: right == Ok(true) };
-        assert_eq!(compare::tag_check(w, n, key, message, tag), same, "{line}");
-        self.script.call(line, format!("tagcheck {}", verdict(right)));
+        assert_eq!(compare::tag_check(self.random.engine(), w, n, key, message, tag), same, "{line}");
+        self.script_call(line, format!("tagcheck {}", verdict(right)));
     }
 
     pub fn start(&mut self, given: &Given) {
         let Given { w, n, key, .. } = *given;
         let right = tags::tag_start(w, n, key);
         let line = format!("tagstart {w} {n} {}", hex(key));
-        self.follow(line, compare::tag_start(w, n, key), right, format!("tagstart {}", right.number));
+        let outcome = compare::tag_start(self.random.engine(), w, n, key);
+        self.follow(line, outcome, right, format!("tagstart {}", right.number));
     }
 
     /// Gives the number of the answer.
     pub fn append(&mut self, piece: &[u8]) -> u32 {
         let right = order::append(&self.record, piece);
+        let outcome = compare::append(self.random.engine(), self.record, piece);
         let printed = format!("append {} {}", right.number, right.count);
-        self.follow(format!("append {}", hex(piece)), compare::append(self.record, piece), right, printed);
+        self.follow(format!("append {}", hex(piece)), outcome, right, printed);
         right.number
     }
 
@@ -102,7 +105,8 @@ impl Calls {
     pub fn rewind(&mut self, keep: u64, h: &[u8], next: Record) {
         let right = Outcome { number: ACCEPTED, count: h.len() as u64 / (4 * next.w), next };
         let line = format!("rewind {keep} {}", hex(h));
-        self.follow(line, compare::rewind(self.record, keep, h), right, format!("rewind 0 {}", right.count));
+        let outcome = compare::rewind(self.random.engine(), self.record, keep, h);
+        self.follow(line, outcome, right, format!("rewind 0 {}", right.count));
     }
 
     /// Makes the record another one.
@@ -128,7 +132,7 @@ impl Calls {
     }
 
     /// A call that writes a tag: its answer, and every byte of the output and around it.
-    fn write(&mut self, line: String, room: usize, right: &Answer<Vec<u8>>, call: impl FnOnce(&mut [u8]) -> u32) {
+    fn write(&mut self, line: String, room: usize, right: &Answer<Vec<u8>>, call: impl FnOnce(u64, &mut [u8]) -> u32) {
         let mut memory = vec![UNTOUCHED; GUARD + room + GUARD];
         let mut expected = memory.clone();
         let number = match right {
@@ -139,7 +143,7 @@ impl Calls {
             }
             Err(number) => *number,
         };
-        let answer = call(&mut memory[GUARD..GUARD + room]);
+        let answer = call(self.random.engine(), &mut memory[GUARD..GUARD + room]);
         assert_eq!(answer, number, "{line}, output of {room} bytes");
         assert!(
             memory == expected,
@@ -147,13 +151,18 @@ impl Calls {
         );
         let name = line.split(' ').next().unwrap();
         let printed = format!("{name} {number} {}", hex(&expected[GUARD..GUARD + room]));
-        self.script.call(format!("{line} {room}"), printed);
+        self.script_call(format!("{line} {room}"), printed);
     }
 
     /// A call that returns a record, which is kept.
     fn follow(&mut self, line: String, outcome: Outcome, right: Outcome, printed: String) {
         assert_eq!(outcome, right, "{line}");
-        self.script.call(line, printed);
+        self.script_call(line, printed);
         self.record = right.next;
+    }
+
+    fn script_call(&mut self, line: String, printed: String) {
+        self.script.engine(&mut self.random);
+        self.script.call(line, printed);
     }
 }
