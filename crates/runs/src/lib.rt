@@ -99,7 +99,7 @@ fn forward32(engine: Engine, t: [u32; 16], s: &[u8]) -> lsh256::Run
 {
     match engine {
         Engine::Words => lsh256::forward(Lsh256::STEPS, t, s),
-        Engine::Groups => lsh256::forward(Lsh256::STEPS, t, s), // STUB
+        Engine::Groups => groups256::forward(Lsh256::STEPS, t, s),
     }
 }
 
@@ -118,7 +118,7 @@ fn backward32(engine: Engine, t: [u32; 16], s: &[u8]) -> lsh256::Run
 {
     match engine {
         Engine::Words => lsh256::backward(Lsh256::STEPS, t, s),
-        Engine::Groups => lsh256::backward(Lsh256::STEPS, t, s), // STUB
+        Engine::Groups => groups256::backward(Lsh256::STEPS, t, s),
     }
 }
 
