@@ -2,10 +2,10 @@
 // processor's four-word instructions: a rotation that it recognises it would do word by word, so a rotation is here two shifts whose amounts come with the step, or
 // the two halves of a product with a power of two.
 ghost use mathlib.Core.Path.{_≡_};
-ghost use Prim.Native.Nat.{ℕ, _+_, _-_, _*_, _^_, _<_, _≤_};
+ghost use Prim.Native.Nat.{ℕ, _+_, _^_, _<_, _≤_};
 ghost use lib.ListN.{length};
+ghost use Rattle.lsh.specs.Tabulate.{at};
 ghost use Rattle.lsh.specs.Word.{add, subtract, rotateLeft, rotateRight, xor};
-ghost use lib.ListN.{length};
 ghost use Rattle.lsh.specs.WordSize.{lsh256, gamma};
 ghost use Rattle.lsh.specs.StepConstants.{constants};
 ghost use Rattle.lsh.specs.Step.{mix, unmix};
@@ -26,58 +26,34 @@ const EVEN: [u32; 4] = [29, 3, 1, 31];
 
 const ODD: [u32; 4] = [5, 27, 17, 15];
 
-// 2 to the amounts of gamma, group after group. The half for the even steps and the one for the odd are alike: so a power depends on the step, and the compiler looks it up
-// and makes no rotation of the product.
-const POWERS: [u64; 16] = [
-    0x1,
-    0x100,
-    0x10000,
-    0x1000000,
-    0x1000000,
-    0x10000,
-    0x100,
-    0x1,
-    0x1,
-    0x100,
-    0x10000,
-    0x1000000,
-    0x1000000,
-    0x10000,
-    0x100,
-    0x1,
-];
+// The amounts of gamma, group after group, and what is left of the width: by so much to the left is by gamma to the right.
+const GAMMA: [u32; 8] = [0, 8, 16, 24, 24, 16, 8, 0];
 
-// The same for the rotations to the right.
-const BACK_POWERS: [u64; 16] = [
-    0x1,
-    0x1000000,
-    0x10000,
-    0x100,
-    0x100,
-    0x10000,
-    0x1000000,
-    0x1,
-    0x1,
-    0x1000000,
-    0x10000,
-    0x100,
-    0x100,
-    0x10000,
-    0x1000000,
-    0x1,
-];
+const REMAINING: [u32; 8] = [0, 24, 16, 8, 8, 16, 24, 0];
 
-// A run of blocks has them once, and lends them on.
+// 2 to each of these amounts, for the even steps and once more for the odd: so a power depends on the step, and the compiler looks it up and makes no rotation of the product.
+fn powers_of(g: [u32; 8]) -> [u64; 16]
+    requires { ⌜ ((l : ℕ) → at g l < 32) ⌝ }
+    ensures { λ r. ⌜ r ≡ powers (at g) ⌝ }
+{
+    let mut r = [0u64; 16];
+    for k in 0..16 {
+        r[k] = 1u64 << g[k % 8];
+    }
+    r
+}
+
+// The powers for a run forward, and for one backward. A run of blocks works them out once, and lends them on.
 pub fn powers() -> [u64; 16]
     ensures { λ r. ⌜ r ≡ powers (gamma lsh256) ⌝ }
 {
-    POWERS
+    powers_of(GAMMA)
 }
 
 pub fn back_powers() -> [u64; 16]
     ensures { λ r. ⌜ r ≡ powers (remaining lsh256) ⌝ }
 {
-    BACK_POWERS
+    powers_of(REMAINING)
 }
 
 // The shifts of step j.

@@ -1,0 +1,36 @@
+-- `mix256::powers_of` meets its contract: the rule of the powers, over the whole array. Assumes nothing.
+use mathlib.Core.Path.{refl}
+use Prim.Native.Nat.{_-_, _%_, _^_}
+use native.Mathlib.Omega.{arith}
+use borrow.Author.Needs.{needs}
+use Rattle.lsh.specs.Tabulate.{at}
+use Rattle.loops.proofs.Places.{Placed, placed-none, filled-more, filled-all}
+use Rattle.mix256.specs.Amounts.{powers}
+use Rattle.mix256.proofs.Amounts.{shifted-one}
+use Rattle.mix256.proofs.powers_of.Statement.{statement}
+use Rattle.mix256.proofs.powers_of.Tie as tie
+
+abbrev Inv-loop : tie.InvT-loop
+Inv-loop g r₀ k₀ r k = Placed 16 (λ i. i) (λ i. 2 ^ at g (i % 8)) r₀ r k
+
+abbrev μ-loop : tie.MeasureT-loop
+μ-loop g r₀ k₀ r k = 16 - k
+
+pub powers-of-spec : {M : Type 1} → statement M
+unfolding powers
+powers-of-spec =
+    tie.close
+    (tie.spec
+    Inv-loop
+    μ-loop
+    (λ c. placed-none 16 _ _ _)
+    (λ c. omega arith)
+    (λ c. omega arith)
+    (λ c. omega (arith, c .before .before .pre (c .before .loop .k % 8)))
+    (λ c. omega (arith, c .before .before .pre (c .before .loop .k % 8)))
+    (λ c. omega arith)
+    (λ c. omega arith)
+    (λ c. omega arith)
+    (λ c. omega arith)
+    (λ c. filled-more _ (c .before .loop .inv) (c .loop-test .taken) (omega arith) (shifted-one _ (c .before .before .pre (c .before .loop .k % 8))))
+    (λ c. filled-all (c .before .loop .inv) (c .loop-test .left) refl))
