@@ -38,7 +38,7 @@ const SC_0: [u64; 8] = [
 ];
 
 // Four words from place a on.
-fn four(m: &[u64], a: usize) -> [u64; 4]
+pub fn four(m: &[u64], a: usize) -> [u64; 4]
     requires { ⌜ a + 4 ≤ length (now m) ⌝ }
     ensures { λ r. ⌜ r ≡ four (now (m .entry)) a ⌝ }
 {

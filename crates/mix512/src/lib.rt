@@ -1,0 +1,135 @@
+// The mix of LSH-512 in groups of four words (22), forward and backward. The processor has nothing to give for four words of 64 bits at once, so a group is mixed
+// word by word, as the first engine does.
+ghost use mathlib.Core.Path.{_≡_};
+ghost use Prim.Native.Nat.{_<_};
+ghost use Rattle.lsh.specs.WordSize.{lsh512, alpha, beta, gamma};
+ghost use Rattle.lsh.specs.StepConstants.{constants};
+ghost use Rattle.lsh.specs.Step.{mix, unmix};
+ghost use Rattle.groups.specs.Group.{group};
+ghost use Rattle.groups.specs.GroupStep.{pair, groups, inWords, mixPair, unmixPair};
+use constants512::Lsh512;
+use constants512::four;
+
+// The groups X and Y of the same lanes.
+struct Pair {
+    x: [u64; 4],
+    y: [u64; 4],
+}
+
+// The amounts of step j, and those of group l. A test is less to the compiler than a look into an array: so a step is short enough to be written out in the loop over
+// the steps.
+fn alpha(j: usize) -> u32
+    ensures { λ r. ⌜ r ≡ alpha lsh512 j ⌝ }
+{
+    if j % 2 == 0 {
+        return 23;
+    }
+    7
+}
+
+fn beta(j: usize) -> u32
+    ensures { λ r. ⌜ r ≡ beta lsh512 j ⌝ }
+{
+    if j % 2 == 0 {
+        return 59;
+    }
+    3
+}
+
+fn gamma(l: usize) -> [u32; 4]
+    requires { ⌜ l < 2 ⌝ }
+    ensures { λ r. ⌜ r ≡ group (gamma lsh512) l ⌝ }
+{
+    if l == 0 {
+        return [0, 16, 32, 48];
+    }
+    [8, 24, 40, 56]
+}
+
+// Lanes 4l to 4l + 3 of step j.
+fn mix_pair(sc: &[u64; Lsh512::CONSTANTS], j: usize, l: usize, x: [u64; 4], y: [u64; 4]) -> Pair
+    requires { ⌜ (now sc ≡ constants lsh512) × (j < lsh512 .steps) × (l < 2) ⌝ }
+    ensures { λ r. ⌜ pair (r .x) (r .y) ≡ mixPair lsh512 j l (pair x y) ⌝ }
+{
+    let a = alpha(j);
+    let b = beta(j);
+    let g = gamma(l);
+    let c = four(sc, j * 8 + l * 4);
+    let p = steps512::mix_lane(a, b, g[0], c[0], x[0], y[0]);
+    let q = steps512::mix_lane(a, b, g[1], c[1], x[1], y[1]);
+    let r = steps512::mix_lane(a, b, g[2], c[2], x[2], y[2]);
+    let s = steps512::mix_lane(a, b, g[3], c[3], x[3], y[3]);
+    Pair {
+        x: [p.x, q.x, r.x, s.x],
+        y: [p.y, q.y, r.y, s.y],
+    }
+}
+
+fn unmix_pair(sc: &[u64; Lsh512::CONSTANTS], j: usize, l: usize, x: [u64; 4], y: [u64; 4]) -> Pair
+    requires { ⌜ (now sc ≡ constants lsh512) × (j < lsh512 .steps) × (l < 2) ⌝ }
+    ensures { λ r. ⌜ pair (r .x) (r .y) ≡ unmixPair lsh512 j l (pair x y) ⌝ }
+{
+    let a = alpha(j);
+    let b = beta(j);
+    let g = gamma(l);
+    let c = four(sc, j * 8 + l * 4);
+    let p = steps512::unmix_lane(a, b, g[0], c[0], x[0], y[0]);
+    let q = steps512::unmix_lane(a, b, g[1], c[1], x[1], y[1]);
+    let r = steps512::unmix_lane(a, b, g[2], c[2], x[2], y[2]);
+    let s = steps512::unmix_lane(a, b, g[3], c[3], x[3], y[3]);
+    Pair {
+        x: [p.x, q.x, r.x, s.x],
+        y: [p.y, q.y, r.y, s.y],
+    }
+}
+
+// The words of four groups.
+fn in_words(x0: [u64; 4], x1: [u64; 4], y0: [u64; 4], y1: [u64; 4]) -> [u64; 16]
+    ensures { λ r. ⌜ r ≡ inWords (groups x0 x1 y0 y1) ⌝ }
+{
+    [
+        x0[0],
+        x0[1],
+        x0[2],
+        x0[3],
+        x1[0],
+        x1[1],
+        x1[2],
+        x1[3],
+        y0[0],
+        y0[1],
+        y0[2],
+        y0[3],
+        y1[0],
+        y1[1],
+        y1[2],
+        y1[3],
+    ]
+}
+
+// The mix of step j (10).
+pub fn mix(sc: &[u64; Lsh512::CONSTANTS], j: usize, t: [u64; 16]) -> [u64; 16]
+    requires { ⌜ (now sc ≡ constants lsh512) × (j < lsh512 .steps) ⌝ }
+    ensures { λ r. ⌜ r ≡ mix lsh512 j t ⌝ }
+{
+    let p = mix_pair(sc, j, 0, four(&t, 0), four(&t, 8));
+    let q = mix_pair(sc, j, 1, four(&t, 4), four(&t, 12));
+    let x0 = p.x;
+    let x1 = q.x;
+    let y0 = p.y;
+    let y1 = q.y;
+    in_words(x0, x1, y0, y1)
+}
+
+pub fn unmix(sc: &[u64; Lsh512::CONSTANTS], j: usize, t: [u64; 16]) -> [u64; 16]
+    requires { ⌜ (now sc ≡ constants lsh512) × (j < lsh512 .steps) ⌝ }
+    ensures { λ r. ⌜ r ≡ unmix lsh512 j t ⌝ }
+{
+    let p = unmix_pair(sc, j, 0, four(&t, 0), four(&t, 8));
+    let q = unmix_pair(sc, j, 1, four(&t, 4), four(&t, 12));
+    let x0 = p.x;
+    let x1 = q.x;
+    let y0 = p.y;
+    let y1 = q.y;
+    in_words(x0, x1, y0, y1)
+}
