@@ -56,11 +56,11 @@ fn all_steps(sc: &[u64; Lsh512::CONSTANTS], m: &[u64], steps: usize, t: [u64; 16
         let u = two_steps(sc, m, k * 2, r);
         r = u;
     }
-    if steps % 2 == 0 {
-        return steps512::add_message(r, lsh512::sub_message(m, steps));
+    if steps % 2 == 1 {
+        let u = step(sc, steps - 1, lsh512::sub_message(m, steps - 1), r);
+        r = u;
     }
-    let u = step(sc, steps - 1, lsh512::sub_message(m, steps - 1), r);
-    steps512::add_message(u, lsh512::sub_message(m, steps))
+    steps512::add_message(r, lsh512::sub_message(m, steps))
 }
 
 // M_steps, and the last of an odd number of steps, so that pairs are left.

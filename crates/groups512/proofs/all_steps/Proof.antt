@@ -1,4 +1,6 @@
 -- `groups512::all_steps` meets its contract. Assumes nothing.
+use mathlib.Core.Path.{_∙_}
+use mathlib.Core.Logic.{⊎-elim}
 use Prim.Native.Nat.{_-_, _*_, _≤_}
 use native.Mathlib.Omega.{arith}
 use borrow.Author.Needs.{needs}
@@ -26,9 +28,6 @@ all-steps-spec =
     (λ c. omega arith)
     (λ c. omega arith)
     (λ c. (stepped-two _ (c .before .before .loop .inv .0) (omega arith) (c .two-steps .ensures), omega arith))
-    (λ c κs. search needs)
-    (λ c κs. search needs)
-    (λ c. stepped-all (c .before .before .before .before .loop .inv .0) (omega arith) (c .before .sub-message .ensures) (c .add-message .ensures))
     (λ c. search needs)
     (λ c. search needs)
     (λ c κs. search needs)
@@ -36,5 +35,8 @@ all-steps-spec =
     (λ c κs. search needs)
     (λ c κs. search needs)
     (λ c.
-    stepped-all (stepped-one (stepped-is (c .before .before .before .before .before .before .loop .inv .0) (omega arith)) (omega arith) (c .before .before .before .sub-message2 .ensures) (c .before .before .step .ensures)) (omega arith)
-    (c .before .sub-message3 .ensures) (c .add-message2 .ensures)))
+    let h = c .before .before .before .before .loop .inv .0 in
+    ⊎-elim
+    (λ w. stepped-all (stepped-one (stepped-is h (omega arith)) (omega arith) (w .1 .ensures) (w .3 ∙ w .2 .ensures)) (omega arith) (c .before .sub-message2 .ensures) (c .add-message .ensures))
+    (λ w. stepped-all h (omega arith) (c .before .sub-message2 .ensures) (rw (w .1) at (c .add-message .ensures)))
+    (c .before .before .if1 .came)))

@@ -21,6 +21,8 @@ mix-spec =
     (λ c κs. search needs)
     (λ c κs. search needs)
     (λ c.
+    let second = c .before .before .before .before .before in
+    let first = second .before .before .before .before .before in
     mixed-by-groups lsh512 _ _ (c .in-words .ensures)
-    (rw (c .before .before .before .before .before .before .before .before .before .before .mix-pair .ensures, c .before .before .before .before .before .before .before .before .before .before .before .four2 .ensures, c .before .before .before .before .before .before .before .before .before .before .before .before .before .four .ensures))
-    (rw (c .before .before .before .before .before .mix-pair2 .ensures, c .before .before .before .before .before .before .four4 .ensures, c .before .before .before .before .before .before .before .before .four3 .ensures))))
+    (rw (first .mix-pair .ensures, first .before .four2 .ensures, first .before .before .before .four .ensures))
+    (rw (second .mix-pair2 .ensures, second .before .four4 .ensures, second .before .before .before .four3 .ensures))))

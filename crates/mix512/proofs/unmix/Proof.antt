@@ -21,6 +21,8 @@ unmix-spec =
     (λ c κs. search needs)
     (λ c κs. search needs)
     (λ c.
+    let second = c .before .before .before .before .before in
+    let first = second .before .before .before .before .before in
     unmixed-by-groups lsh512 _ _ (c .in-words .ensures)
-    (rw (c .before .before .before .before .before .before .before .before .before .before .unmix-pair .ensures, c .before .before .before .before .before .before .before .before .before .before .before .four2 .ensures, c .before .before .before .before .before .before .before .before .before .before .before .before .before .four .ensures))
-    (rw (c .before .before .before .before .before .unmix-pair2 .ensures, c .before .before .before .before .before .before .four4 .ensures, c .before .before .before .before .before .before .before .before .four3 .ensures))))
+    (rw (first .unmix-pair .ensures, first .before .four2 .ensures, first .before .before .before .four .ensures))
+    (rw (second .unmix-pair2 .ensures, second .before .four4 .ensures, second .before .before .before .four3 .ensures))))
