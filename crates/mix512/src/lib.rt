@@ -2,8 +2,10 @@
 // word by word, as the first engine does.
 ghost use mathlib.Core.Path.{_≡_};
 ghost use Prim.Native.Nat.{_<_};
+ghost use Rattle.lsh.specs.Tabulate.{at};
 ghost use Rattle.lsh.specs.WordSize.{lsh512, alpha, beta, gamma};
 ghost use Rattle.lsh.specs.StepConstants.{constants};
+ghost use Rattle.lsh.specs.Lane.{lane, mixLane, unmixLane};
 ghost use Rattle.lsh.specs.Step.{mix, unmix};
 ghost use Rattle.groups.specs.Group.{group};
 ghost use Rattle.groups.specs.GroupStep.{pair, groups, inWords, mixPair, unmixPair};
@@ -46,19 +48,46 @@ fn gamma(l: usize) -> [u32; 4]
     [8, 24, 40, 56]
 }
 
+// Word i of two groups X and Y, a lane of step j, with the groups of gamma and of the constants.
+fn mix_word(
+    j: usize,
+    g: [u32; 4],
+    c: [u64; 4],
+    x: [u64; 4],
+    y: [u64; 4],
+    i: usize,
+) -> steps512::Pair
+    requires { ⌜ (at g i < lsh512 .bits) × (i < 4) ⌝ }
+    ensures { λ r. ⌜ lane (r .x) (r .y) ≡ mixLane (lsh512 .bits) (alpha lsh512 j) (beta lsh512 j) (at g i) (at c i) (lane (at x i) (at y i)) ⌝ }
+{
+    steps512::mix_lane(alpha(j), beta(j), g[i], c[i], x[i], y[i])
+}
+
+fn unmix_word(
+    j: usize,
+    g: [u32; 4],
+    c: [u64; 4],
+    x: [u64; 4],
+    y: [u64; 4],
+    i: usize,
+) -> steps512::Pair
+    requires { ⌜ (at g i < lsh512 .bits) × (i < 4) ⌝ }
+    ensures { λ r. ⌜ lane (r .x) (r .y) ≡ unmixLane (lsh512 .bits) (alpha lsh512 j) (beta lsh512 j) (at g i) (at c i) (lane (at x i) (at y i)) ⌝ }
+{
+    steps512::unmix_lane(alpha(j), beta(j), g[i], c[i], x[i], y[i])
+}
+
 // Lanes 4l to 4l + 3 of step j.
 fn mix_pair(sc: &[u64; Lsh512::CONSTANTS], j: usize, l: usize, x: [u64; 4], y: [u64; 4]) -> Pair
     requires { ⌜ (now sc ≡ constants lsh512) × (j < lsh512 .steps) × (l < 2) ⌝ }
     ensures { λ r. ⌜ pair (r .x) (r .y) ≡ mixPair lsh512 j l (pair x y) ⌝ }
 {
-    let a = alpha(j);
-    let b = beta(j);
     let g = gamma(l);
     let c = four(sc, j * 8 + l * 4);
-    let p = steps512::mix_lane(a, b, g[0], c[0], x[0], y[0]);
-    let q = steps512::mix_lane(a, b, g[1], c[1], x[1], y[1]);
-    let r = steps512::mix_lane(a, b, g[2], c[2], x[2], y[2]);
-    let s = steps512::mix_lane(a, b, g[3], c[3], x[3], y[3]);
+    let p = mix_word(j, g, c, x, y, 0);
+    let q = mix_word(j, g, c, x, y, 1);
+    let r = mix_word(j, g, c, x, y, 2);
+    let s = mix_word(j, g, c, x, y, 3);
     Pair {
         x: [p.x, q.x, r.x, s.x],
         y: [p.y, q.y, r.y, s.y],
@@ -69,24 +98,26 @@ fn unmix_pair(sc: &[u64; Lsh512::CONSTANTS], j: usize, l: usize, x: [u64; 4], y:
     requires { ⌜ (now sc ≡ constants lsh512) × (j < lsh512 .steps) × (l < 2) ⌝ }
     ensures { λ r. ⌜ pair (r .x) (r .y) ≡ unmixPair lsh512 j l (pair x y) ⌝ }
 {
-    let a = alpha(j);
-    let b = beta(j);
     let g = gamma(l);
     let c = four(sc, j * 8 + l * 4);
-    let p = steps512::unmix_lane(a, b, g[0], c[0], x[0], y[0]);
-    let q = steps512::unmix_lane(a, b, g[1], c[1], x[1], y[1]);
-    let r = steps512::unmix_lane(a, b, g[2], c[2], x[2], y[2]);
-    let s = steps512::unmix_lane(a, b, g[3], c[3], x[3], y[3]);
+    let p = unmix_word(j, g, c, x, y, 0);
+    let q = unmix_word(j, g, c, x, y, 1);
+    let r = unmix_word(j, g, c, x, y, 2);
+    let s = unmix_word(j, g, c, x, y, 3);
     Pair {
         x: [p.x, q.x, r.x, s.x],
         y: [p.y, q.y, r.y, s.y],
     }
 }
 
-// The words of four groups.
-fn in_words(x0: [u64; 4], x1: [u64; 4], y0: [u64; 4], y1: [u64; 4]) -> [u64; 16]
-    ensures { λ r. ⌜ r ≡ inWords (groups x0 x1 y0 y1) ⌝ }
+// The words of the pairs of lanes 0 to 3 and 4 to 7.
+fn in_words(p: Pair, q: Pair) -> [u64; 16]
+    ensures { λ r. ⌜ r ≡ inWords (groups (p .x) (q .x) (p .y) (q .y)) ⌝ }
 {
+    let x0 = p.x;
+    let x1 = q.x;
+    let y0 = p.y;
+    let y1 = q.y;
     [
         x0[0],
         x0[1],
@@ -114,11 +145,7 @@ pub fn mix(sc: &[u64; Lsh512::CONSTANTS], j: usize, t: [u64; 16]) -> [u64; 16]
 {
     let p = mix_pair(sc, j, 0, four(&t, 0), four(&t, 8));
     let q = mix_pair(sc, j, 1, four(&t, 4), four(&t, 12));
-    let x0 = p.x;
-    let x1 = q.x;
-    let y0 = p.y;
-    let y1 = q.y;
-    in_words(x0, x1, y0, y1)
+    in_words(p, q)
 }
 
 pub fn unmix(sc: &[u64; Lsh512::CONSTANTS], j: usize, t: [u64; 16]) -> [u64; 16]
@@ -127,9 +154,5 @@ pub fn unmix(sc: &[u64; Lsh512::CONSTANTS], j: usize, t: [u64; 16]) -> [u64; 16]
 {
     let p = unmix_pair(sc, j, 0, four(&t, 0), four(&t, 8));
     let q = unmix_pair(sc, j, 1, four(&t, 4), four(&t, 12));
-    let x0 = p.x;
-    let x1 = q.x;
-    let y0 = p.y;
-    let y1 = q.y;
-    in_words(x0, x1, y0, y1)
+    in_words(p, q)
 }

@@ -21,7 +21,7 @@ mix-spec =
     (λ c κs. search needs)
     (λ c κs. search needs)
     (λ c.
-    let second = c .before .before .before .before .before in
+    let second = c .before in
     let first = second .before .before .before .before .before in
     mixed-by-groups lsh512 _ _ (c .in-words .ensures)
     (rw (first .mix-pair .ensures, first .before .four2 .ensures, first .before .before .before .four .ensures))
