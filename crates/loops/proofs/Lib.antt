@@ -4,6 +4,7 @@ pub mod Places
 pub mod Constants
 pub mod Lanes
 pub mod Groups
+pub mod Pairs
 pub mod Rows
 pub mod Turns
 pub mod Ahead

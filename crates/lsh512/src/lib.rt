@@ -33,7 +33,7 @@ fn load_block(m: &mut [u64], s: &[u8])
 }
 
 // M_j
-fn sub_message(m: &[u64], j: usize) -> [u64; 16]
+pub fn sub_message(m: &[u64], j: usize) -> [u64; 16]
     requires { ⌜ (length (now m) ≡ expandedWords lsh512) × (j ≤ lsh512 .steps) ⌝ }
     ensures { λ r. ⌜ r ≡ row (now (m .entry)) j ⌝ }
 {
@@ -83,7 +83,7 @@ fn expand(m: &mut [u64], steps: usize)
 }
 
 // The sub-messages of the block s up to M_steps.
-fn expand_block(m: &mut [u64], steps: usize, s: &[u8])
+pub fn expand_block(m: &mut [u64], steps: usize, s: &[u8])
     requires { ⌜ (length (now m) ≡ expandedWords lsh512) × (1 ≤ steps) × (steps ≤ lsh512 .steps) × (length (now s) ≡ blockBytes lsh512) ⌝ }
     ensures { λ _. ⌜ Expanded lsh512 (wordsOf lsh512 32 (now (s .entry))) (now (m .exit)) steps ⌝ }
 {
@@ -216,7 +216,7 @@ fn backward_block(
 }
 
 // Room for the sub-messages of a block.
-fn room() -> [u64; Lsh512::EXPANDED] {
+pub fn room() -> [u64; Lsh512::EXPANDED] {
     [0u64; Lsh512::EXPANDED]
 }
 

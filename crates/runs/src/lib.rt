@@ -108,7 +108,7 @@ fn forward64(engine: Engine, t: [u64; 16], s: &[u8]) -> lsh512::Run
 {
     match engine {
         Engine::Words => lsh512::forward(Lsh512::STEPS, t, s),
-        Engine::Groups => lsh512::forward(Lsh512::STEPS, t, s), // STUB
+        Engine::Groups => groups512::forward(Lsh512::STEPS, t, s),
     }
 }
 
@@ -127,7 +127,7 @@ fn backward64(engine: Engine, t: [u64; 16], s: &[u8]) -> lsh512::Run
 {
     match engine {
         Engine::Words => lsh512::backward(Lsh512::STEPS, t, s),
-        Engine::Groups => lsh512::backward(Lsh512::STEPS, t, s), // STUB
+        Engine::Groups => groups512::backward(Lsh512::STEPS, t, s),
     }
 }
 

@@ -8,9 +8,9 @@ ghost use Rattle.lsh.specs.Step.{addMessage, mix, unmix, permute, unpermute, st
 use constants512::Lsh512;
 
 // The words X and Y of a lane.
-struct Pair {
-    x: u64,
-    y: u64,
+pub struct Pair {
+    pub x: u64,
+    pub y: u64,
 }
 
 const SIGMA: [usize; 16] = [6, 4, 5, 7, 12, 15, 14, 13, 2, 0, 1, 3, 8, 11, 10, 9];
@@ -31,7 +31,7 @@ fn step_constant(sc: &[u64; Lsh512::CONSTANTS], j: usize, l: usize) -> u64
 }
 
 // (22)
-fn mix_lane(a: u32, b: u32, g: u32, c: u64, x: u64, y: u64) -> Pair
+pub fn mix_lane(a: u32, b: u32, g: u32, c: u64, x: u64, y: u64) -> Pair
     requires { ⌜ (a < lsh512 .bits) × (b < lsh512 .bits) × (g < lsh512 .bits) ⌝ }
     ensures { λ r. ⌜ lane (r .x) (r .y) ≡ mixLane (lsh512 .bits) a b g c (lane x y) ⌝ }
 {
@@ -43,7 +43,7 @@ fn mix_lane(a: u32, b: u32, g: u32, c: u64, x: u64, y: u64) -> Pair
     }
 }
 
-fn unmix_lane(a: u32, b: u32, g: u32, c: u64, x: u64, y: u64) -> Pair
+pub fn unmix_lane(a: u32, b: u32, g: u32, c: u64, x: u64, y: u64) -> Pair
     requires { ⌜ (a < lsh512 .bits) × (b < lsh512 .bits) × (g < lsh512 .bits) ⌝ }
     ensures { λ r. ⌜ lane (r .x) (r .y) ≡ unmixLane (lsh512 .bits) a b g c (lane x y) ⌝ }
 {
@@ -101,7 +101,7 @@ fn unmix(sc: &[u64; Lsh512::CONSTANTS], j: usize, t: [u64; 16]) -> [u64; 16]
 }
 
 // (15)
-fn permute(t: [u64; 16]) -> [u64; 16]
+pub fn permute(t: [u64; 16]) -> [u64; 16]
     ensures { λ r. ⌜ r ≡ permute t ⌝ }
 {
     let sigma = SIGMA;
@@ -112,7 +112,7 @@ fn permute(t: [u64; 16]) -> [u64; 16]
     r
 }
 
-fn unpermute(t: [u64; 16]) -> [u64; 16]
+pub fn unpermute(t: [u64; 16]) -> [u64; 16]
     ensures { λ r. ⌜ r ≡ unpermute t ⌝ }
 {
     let sigma = SIGMA;

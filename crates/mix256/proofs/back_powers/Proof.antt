@@ -1,5 +1,5 @@
 -- `mix256::back_powers` meets its contract. Assumes nothing.
-use native.Mathlib.Omega.{arith}
+use mathlib.Core.List.{[], _∷_}
 use Prim.Native.Nat.{suc-le-suc}
 use Rattle.lsh.specs.Tabulate.{tabulate, tabulateFrom}
 use Rattle.lsh.specs.WordSize.{lsh256, gamma}
@@ -10,4 +10,4 @@ use Rattle.mix256.proofs.back_powers.Tie as tie
 
 pub back-powers-spec : {M : Type 1} → statement M
 unfolding powers remaining gamma lsh256 tabulate tabulateFrom
-back-powers-spec = tie.close (tie.spec (λ c κs l. suc-le-suc (at-upTo 31 _ tt l)) (λ c. c .powers-of .ensures))
+back-powers-spec = tie.close (tie.spec (λ c κs l. suc-le-suc (at-upTo 31 (0 ∷ 24 ∷ 16 ∷ 8 ∷ 8 ∷ 16 ∷ 24 ∷ 0 ∷ []) tt l)) (λ c. c .powers-of .ensures))
