@@ -8,7 +8,7 @@ ghost use lib.Seq.{paste};
 ghost use Rattle.lsh.specs.Tabulate.{at};
 ghost use Rattle.lsh.specs.WordSize.{isWordSize, lsh256, lsh512, sizeOf, chainBytes, blockBytes};
 ghost use Rattle.lsh.specs.Bytes.{wordsOf, bytesOf};
-ghost use Rattle.lsh.specs.Block.{Chain, forwards, backwards};
+ghost use Rattle.lsh.specs.Block.{Chain, forwardsSteps, backwardsSteps, forwards, backwards};
 ghost use Rattle.lsh.specs.Opening.{opening};
 ghost use Rattle.lsh.specs.Padding.{blocksOf};
 ghost use Rattle.lists.specs.ZeroFilled.{zeroFilled};
@@ -93,7 +93,7 @@ pub struct Run {
     pub count: usize,
 }
 
-// Runs the whole blocks of s forward, in order, on the chain t, at one word size. These four functions alone look at the engine.
+// Runs the whole blocks of s forward, in order, on the chain t, at one word size. These four functions and the four behind them alone look at the engine.
 fn forward32(engine: Engine, t: [u32; 16], s: &[u8]) -> lsh256::Run
     ensures { λ r. ⌜ (r .chain ≡ forwards lsh256 (blocksOf lsh256 (now (s .entry))) t) × (r .count ≡ length (now (s .entry)) / blockBytes lsh256) ⌝ }
 {
@@ -128,6 +128,48 @@ fn backward64(engine: Engine, t: [u64; 16], s: &[u8]) -> lsh512::Run
     match engine {
         Engine::Words => lsh512::backward(Lsh512::STEPS, t, s),
         Engine::Groups => groups512::backward(Lsh512::STEPS, t, s),
+    }
+}
+
+// The same with a number of steps, for the block calls. They do not stand under the four above: an engine that one function alone calls is written into it by the compiler,
+// which then no longer works on four words at once.
+fn forward_steps32(engine: Engine, steps: usize, t: [u32; 16], s: &[u8]) -> lsh256::Run
+    requires { ⌜ (1 ≤ steps) × (steps ≤ lsh256 .steps) ⌝ }
+    ensures { λ r. ⌜ (r .chain ≡ forwardsSteps lsh256 steps (blocksOf lsh256 (now (s .entry))) t) × (r .count ≡ length (now (s .entry)) / blockBytes lsh256) ⌝ }
+{
+    match engine {
+        Engine::Words => lsh256::forward(steps, t, s),
+        Engine::Groups => groups256::forward(steps, t, s),
+    }
+}
+
+fn forward_steps64(engine: Engine, steps: usize, t: [u64; 16], s: &[u8]) -> lsh512::Run
+    requires { ⌜ (1 ≤ steps) × (steps ≤ lsh512 .steps) ⌝ }
+    ensures { λ r. ⌜ (r .chain ≡ forwardsSteps lsh512 steps (blocksOf lsh512 (now (s .entry))) t) × (r .count ≡ length (now (s .entry)) / blockBytes lsh512) ⌝ }
+{
+    match engine {
+        Engine::Words => lsh512::forward(steps, t, s),
+        Engine::Groups => groups512::forward(steps, t, s),
+    }
+}
+
+fn backward_steps32(engine: Engine, steps: usize, t: [u32; 16], s: &[u8]) -> lsh256::Run
+    requires { ⌜ (1 ≤ steps) × (steps ≤ lsh256 .steps) ⌝ }
+    ensures { λ r. ⌜ (r .chain ≡ backwardsSteps lsh256 steps (blocksOf lsh256 (now (s .entry))) t) × (r .count ≡ length (now (s .entry)) / blockBytes lsh256) ⌝ }
+{
+    match engine {
+        Engine::Words => lsh256::backward(steps, t, s),
+        Engine::Groups => groups256::backward(steps, t, s),
+    }
+}
+
+fn backward_steps64(engine: Engine, steps: usize, t: [u64; 16], s: &[u8]) -> lsh512::Run
+    requires { ⌜ (1 ≤ steps) × (steps ≤ lsh512 .steps) ⌝ }
+    ensures { λ r. ⌜ (r .chain ≡ backwardsSteps lsh512 steps (blocksOf lsh512 (now (s .entry))) t) × (r .count ≡ length (now (s .entry)) / blockBytes lsh512) ⌝ }
+{
+    match engine {
+        Engine::Words => lsh512::backward(steps, t, s),
+        Engine::Groups => groups512::backward(steps, t, s),
     }
 }
 
@@ -187,13 +229,13 @@ pub fn forward_bytes(engine: Engine, w: u64, chain: &mut [u8], s: &[u8])
 {
     if w == 32 {
         let t = lsh256::load_chain(chain);
-        let run = forward32(engine, t, s);
+        let run = forward_steps32(engine, Lsh256::STEPS, t, s);
         let ahead = run.chain;
         lsh256::store_chain(chain, ahead);
         return;
     }
     let t = lsh512::load_chain(chain);
-    let run = forward64(engine, t, s);
+    let run = forward_steps64(engine, Lsh512::STEPS, t, s);
     let ahead = run.chain;
     lsh512::store_chain(chain, ahead);
 }
@@ -204,13 +246,13 @@ pub fn backward_bytes(engine: Engine, w: u64, chain: &mut [u8], s: &[u8])
 {
     if w == 32 {
         let t = lsh256::load_chain(chain);
-        let run = backward32(engine, t, s);
+        let run = backward_steps32(engine, Lsh256::STEPS, t, s);
         let before = run.chain;
         lsh256::store_chain(chain, before);
         return;
     }
     let t = lsh512::load_chain(chain);
-    let run = backward64(engine, t, s);
+    let run = backward_steps64(engine, Lsh512::STEPS, t, s);
     let before = run.chain;
     lsh512::store_chain(chain, before);
 }
