@@ -1,7 +1,7 @@
 -- The two engines give the same chains, forward and backward, for every word size, every number of steps, every chain and every block. So a list of blocks, each
 -- run on either engine, reaches the chain that the first engine reaches.
 -- Assumes nothing.
-use mathlib.Core.Path.{_≡_, refl, sym, ap, ap₂, _∙_}
+use mathlib.Core.Path.{_≡_, refl, ap, ap₂, _∙_}
 use mathlib.Core.List.{List, [], _∷_}
 use Prim.Native.Nat.{ℕ, zero, suc}
 use Rattle.lsh.specs.WordSize.{WordSize}

@@ -1,7 +1,7 @@
 -- What is done with 16 words in groups is what the definition of LSH does with the words, for every word size: the two write out the same words.
 -- Assumes nothing.
 use mathlib.Core.Path.{_≡_, refl, ap}
-use mathlib.Core.List.{List, _++_}
+use mathlib.Core.List.{List}
 use Prim.Native.Nat.{ℕ}
 use Rattle.lsh.specs.Tabulate.{tabulate, tabulateFrom}
 use Rattle.lsh.specs.WordSize.{WordSize, tau, sigma, placeOf}
@@ -9,7 +9,7 @@ use Rattle.lsh.specs.Lane.{mixLane, unmixLane}
 use Rattle.lsh.specs.Step.{addMessage, lanes, mixedLane, unmixedLane, mix, unmix, permute, unpermute}
 use Rattle.lsh.specs.Expansion.{nextSubMessage}
 use Rattle.groups.specs.Group.{group, eachWord, wordwise, permuteWords, unpermuteWords}
-use Rattle.groups.specs.GroupStep.{Groups, inGroups, inWords, addGroups, mixPair, unmixPair, mixGroups, unmixGroups, withinX, withinY, permuteGroups, unpermuteGroups}
+use Rattle.groups.specs.GroupStep.{inGroups, inWords, addGroups, mixPair, unmixPair, mixGroups, unmixGroups, withinX, withinY, permuteGroups, unpermuteGroups}
 use Rattle.groups.specs.GroupBlock.{withinFirst, withinSecond, nextGroups}
 
 module _ (z : WordSize) (t m : List ℕ) where

@@ -170,7 +170,7 @@ fn last_unstep(sc: &[u32; Lsh256::CONSTANTS], m: &[u32], steps: usize, t: [u32; 
 }
 
 // The block s on the chain t, with this number of steps. m is room for the sub-messages. Both directions load and expand it themselves: with
-// one function for the two, as lsh512 has it, long runs are slower here.
+// one function for the two, as lsh512 has it, long runs were slower here while this was the only engine.
 fn forward_block(
     sc: &[u32; Lsh256::CONSTANTS],
     m: &mut [u32],

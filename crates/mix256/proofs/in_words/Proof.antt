@@ -1,6 +1,5 @@
 -- `mix256::in_words` meets its contract. Assumes nothing.
 use borrow.Author.Needs.{needs}
-use mathlib.Core.Path.{_≡_}
 use Rattle.lsh.specs.Tabulate.{tabulate, tabulateFrom}
 use Rattle.loops.proofs.Groups.{listed-words}
 use Rattle.mix256.proofs.in_words.Statement.{statement}

@@ -1,6 +1,5 @@
 -- `mix256::turn` meets its contract. Assumes nothing.
 use borrow.Author.Needs.{needs}
-use native.Mathlib.Omega.{arith}
 use Rattle.loops.proofs.Machine.{turned-is}
 use Rattle.mix256.proofs.turn.Statement.{statement}
 use Rattle.mix256.proofs.turn.Tie as tie
