@@ -2,36 +2,30 @@
 // mix256; all else works on a chain as it is in memory, four words at a time too, and is that of the first engine. Group l of a chain stands at places 4l to 4l + 3.
 ghost use mathlib.Core.Path.{_≡_};
 ghost use mathlib.Core.List.{List};
-ghost use Prim.Native.Nat.{ℕ, _+_, _*_, _/_, _<_, _≤_};
+ghost use Prim.Native.Nat.{ℕ, _+_, _-_, _*_, _/_, _%_, _<_, _≤_, min};
 ghost use lib.ListN.{length, take};
 ghost use lib.Seq.{sets};
-ghost use Rattle.lsh.specs.WordSize.{lsh256, blockBytes, gamma};
-ghost use Rattle.lsh.specs.StepConstants.{constants};
+ghost use Rattle.lsh.specs.Tabulate.{tabulate};
+ghost use Rattle.lsh.specs.WordSize.{lsh256, blockBytes};
+ghost use Rattle.lsh.specs.StepConstants.{constant, constants};
 ghost use Rattle.lsh.specs.Bytes.{wordsOf};
 ghost use Rattle.lsh.specs.Step.{step, unstep};
 ghost use Rattle.lsh.specs.Expansion.{nextSubMessage};
 ghost use Rattle.lsh.specs.Block.{forwardSteps, backwardSteps, forwardsSteps, backwardsSteps};
 ghost use Rattle.lsh.specs.Padding.{blocksOf};
 ghost use Rattle.loops.specs.Rows.{expandedWords, row};
-ghost use Rattle.loops.specs.Turns.{RunBack};
-ghost use Rattle.mix256.specs.Amounts.{shifts, remaining, powers};
+ghost use Rattle.loops.specs.Turns.{SteppedAhead, RunBack};
+ghost use Rattle.mix256.specs.Amounts.{shifts, betaGamma, remaining, powers};
 use lsh256::Lsh256;
 use lsh256::Run;
 
-// Step j, whose shifts are k, with its sub-message in m (6).
-fn step(
-    sc: &[u32; Lsh256::CONSTANTS],
-    pw: &[u64; 16],
-    k: [u32; 4],
-    j: usize,
-    m: &[u32],
-    t: [u32; 16],
-) -> [u32; 16]
-    requires { ⌜ (now sc ≡ constants lsh256) × (now pw ≡ powers (gamma lsh256)) × (k ≡ shifts lsh256 j) × (j < lsh256 .steps) × (j * 16 + 16 ≤ length (now m)) ⌝ }
+// Step j, whose constants are c and whose shifts are k, with its sub-message in m (6).
+fn step(c: [u32; 8], pw: &[u64; 32], k: [u32; 4], j: usize, m: &[u32], t: [u32; 16]) -> [u32; 16]
+    requires { ⌜ (c ≡ tabulate 8 (constant lsh256 j)) × (now pw ≡ powers (betaGamma lsh256)) × (k ≡ shifts lsh256 j) × (j * 16 + 16 ≤ length (now m)) ⌝ }
     ensures { λ r. ⌜ r ≡ step lsh256 j (row (now (m .entry)) j) t ⌝ }
 {
     steps256::permute(mix256::mix(
-        sc,
+        c,
         pw,
         k,
         j,
@@ -41,7 +35,7 @@ fn step(
 
 fn unstep(
     sc: &[u32; Lsh256::CONSTANTS],
-    pw: &[u64; 16],
+    pw: &[u64; 32],
     k: [u32; 4],
     j: usize,
     m: &[u32],
@@ -61,7 +55,9 @@ fn expand_row(m: &mut [u32], j: usize)
     requires { ⌜ (j + 3) * 16 ≤ length (now m) ⌝ }
     ensures { λ _. ⌜ now (m .exit) ≡ sets (now (m .entry)) ((j + 2) * 16) (nextSubMessage lsh256 (row (now (m .entry)) (j + 1)) (row (now (m .entry)) j)) ⌝ }
 {
-    let r = lsh256::next_sub_message(lsh256::sub_message(m, j + 1), lsh256::sub_message(m, j));
+    let q = lsh256::sub_message(m, j);
+    let p = lsh256::sub_message(m, j + 1);
+    let r = lsh256::next_sub_message(p, q);
     lsh256::put_sub_message(m, j + 2, r);
 }
 
@@ -71,25 +67,86 @@ fn long_room() -> [u32; Lsh256::EXPANDED + 16] {
     [0u32; Lsh256::EXPANDED + 16]
 }
 
-// The steps on the chain t, and then M_steps, for the block whose words stand first in m.
+// A chain, and how many steps led to it.
+struct Stepped {
+    chain: [u32; 16],
+    count: usize,
+}
+
+// Step j, if it is even.
+fn even_step(
+    sc: &[u32; Lsh256::CONSTANTS],
+    pw: &[u64; 32],
+    m: &mut [u32],
+    j: usize,
+    t: [u32; 16],
+) -> Stepped
+    requires { ⌜ (now sc ≡ constants lsh256) × (now pw ≡ powers (betaGamma lsh256)) × (j < lsh256 .steps) × (length (now m) ≡ expandedWords lsh256 + 16) ⌝ }
+    ensures { λ r. ⌜ ((m₀ u : List ℕ) → SteppedAhead lsh256 m₀ (now (m .entry)) j u t → SteppedAhead lsh256 m₀ (now (m .exit)) (r .count) u (r .chain)) × (r .count ≡ j + (1 - j % 2)) ⌝ }
+{
+    let mut r = t;
+    let mut count = j;
+    if j % 2 == 0 {
+        let c = mix256::constants(sc, j);
+        expand_row(m, j);
+        let u = step(c, pw, mix256::shifts(j), j, m, r);
+        r = u;
+        count += 1;
+    }
+    Stepped {
+        chain: r,
+        count: count,
+    }
+}
+
+// The steps from j on, below the number of steps, as long as they are odd: so at most one. To the compiler it is a loop of its own, and what it does not do on
+// a run of different steps it does on the turns of a loop: it takes the words of a group together.
+fn odd_steps(
+    sc: &[u32; Lsh256::CONSTANTS],
+    pw: &[u64; 32],
+    m: &mut [u32],
+    steps: usize,
+    j: usize,
+    t: [u32; 16],
+) -> Stepped
+    requires { ⌜ (now sc ≡ constants lsh256) × (now pw ≡ powers (betaGamma lsh256)) × (steps ≤ lsh256 .steps) × (j ≤ steps) × (length (now m) ≡ expandedWords lsh256 + 16) ⌝ }
+    ensures { λ r. ⌜ ((m₀ u : List ℕ) → SteppedAhead lsh256 m₀ (now (m .entry)) j u t → SteppedAhead lsh256 m₀ (now (m .exit)) (r .count) u (r .chain)) × (r .count ≡ min steps (j + j % 2)) ⌝ }
+{
+    let mut r = t;
+    let mut count = j;
+    while count < steps && count % 2 == 1 {
+        let c = mix256::constants(sc, count);
+        expand_row(m, count);
+        let u = step(c, pw, mix256::shifts(count), count, m, r);
+        r = u;
+        count += 1;
+    }
+    Stepped {
+        chain: r,
+        count: count,
+    }
+}
+
+// The steps on the chain t, and then M_steps, for the block whose words stand first in m. An even and an odd step have functions of their own, in which their shifts are
+// constants.
 fn all_steps(
     sc: &[u32; Lsh256::CONSTANTS],
-    pw: &[u64; 16],
+    pw: &[u64; 32],
     m: &mut [u32],
     steps: usize,
     t: [u32; 16],
 ) -> [u32; 16]
-    requires { ⌜ (now sc ≡ constants lsh256) × (now pw ≡ powers (gamma lsh256)) × (length (now m) ≡ expandedWords lsh256 + 16) × (steps ≤ lsh256 .steps) ⌝ }
+    requires { ⌜ (now sc ≡ constants lsh256) × (now pw ≡ powers (betaGamma lsh256)) × (length (now m) ≡ expandedWords lsh256 + 16) × (steps ≤ lsh256 .steps) ⌝ }
     ensures { λ r. ⌜ r ≡ forwardSteps lsh256 steps (take 32 (now (m .entry))) t ⌝ }
 {
     let mut r = t;
-    let mut k = mix256::shifts(0);
-    for j in 0..steps {
-        expand_row(m, j);
-        let u = step(sc, pw, k, j, m, r);
-        r = u;
-        let n = mix256::next_shifts(k);
-        k = n;
+    let mut j = 0;
+    while j < steps {
+        let e = even_step(sc, pw, m, j, r);
+        let u = e.chain;
+        let o = odd_steps(sc, pw, m, steps, e.count, u);
+        r = o.chain;
+        j = o.count;
     }
     steps256::add_message(r, lsh256::sub_message(m, steps))
 }
@@ -98,7 +155,7 @@ fn all_steps(
 // steps + 1.
 fn all_unsteps(
     sc: &[u32; Lsh256::CONSTANTS],
-    pw: &[u64; 16],
+    pw: &[u64; 32],
     m: &[u32],
     steps: usize,
     t: [u32; 16],
@@ -122,13 +179,13 @@ fn all_unsteps(
 // The block s on the chain t, with this number of steps. m is room for the sub-messages.
 fn forward_block(
     sc: &[u32; Lsh256::CONSTANTS],
-    pw: &[u64; 16],
+    pw: &[u64; 32],
     m: &mut [u32],
     steps: usize,
     s: &[u8],
     t: [u32; 16],
 ) -> [u32; 16]
-    requires { ⌜ (now sc ≡ constants lsh256) × (now pw ≡ powers (gamma lsh256)) × (length (now m) ≡ expandedWords lsh256 + 16) × (steps ≤ lsh256 .steps) × (length (now s) ≡ blockBytes lsh256) ⌝ }
+    requires { ⌜ (now sc ≡ constants lsh256) × (now pw ≡ powers (betaGamma lsh256)) × (length (now m) ≡ expandedWords lsh256 + 16) × (steps ≤ lsh256 .steps) × (length (now s) ≡ blockBytes lsh256) ⌝ }
     ensures { λ r. ⌜ r ≡ forwardSteps lsh256 steps (wordsOf lsh256 32 (now (s .entry))) t ⌝ }
 {
     lsh256::load_block(m, s);
@@ -137,7 +194,7 @@ fn forward_block(
 
 fn backward_block(
     sc: &[u32; Lsh256::CONSTANTS],
-    pw: &[u64; 16],
+    pw: &[u64; 32],
     m: &mut [u32],
     steps: usize,
     s: &[u8],

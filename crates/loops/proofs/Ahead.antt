@@ -13,13 +13,8 @@ use Rattle.lsh.specs.Step.{addMessage, step}
 use Rattle.lsh.specs.Expansion.{nextSubMessage, subMessage}
 use Rattle.lsh.specs.Block.{steps, forwardSteps}
 use Rattle.loops.specs.Rows.{row}
+use Rattle.loops.specs.Turns.{SteppedAhead}
 use Rattle.loops.proofs.Rows.{sub-next, rows-none, rows-more, take-stored}
-
--- the steps 0 to j - 1 lead from t to r, and M_0 to M_(j + 1) stand in m
-pub record SteppedAhead (z : WordSize) (m₀ m : List ℕ) (j : ℕ) (t r : List ℕ) : Type 0 where
-  pub len : length m ≡ length m₀
-  pub rows : (i : ℕ) → i ≤ j + 1 → row m i ≡ subMessage z (take 32 m₀) i
-  pub chain : r ≡ steps z (take 32 m₀) j t
 
 pub ahead-none : (z : WordSize) (m t : List ℕ) → 32 ≤ length m → SteppedAhead z m m 0 t t
 unfolding steps

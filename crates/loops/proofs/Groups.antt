@@ -9,7 +9,7 @@ use Rattle.lsh.specs.Tabulate.{at, tabulate, tabulateFrom}
 use Rattle.lsh.specs.WordSize.{WordSize}
 use Rattle.lsh.specs.StepConstants.{constant, constants}
 use Rattle.lsh.specs.Step.{mix, unmix}
-use Rattle.lsh.proofs.Tabulate.{tabulate-ext, tabulate-cong}
+use Rattle.lsh.proofs.Tabulate.{at-tabulate, tabulate-ext, tabulate-cong}
 use Rattle.groups.specs.Group.{group}
 use Rattle.groups.specs.GroupStep.{Pair, pair, groups, inGroups, inWords, mixPair, unmixPair, mixGroups, unmixGroups}
 use Rattle.groups.proofs.Parts.{mixed-words, unmixed-words}
@@ -24,6 +24,14 @@ four-constants z sc e j l hj hl =
     λ i hi.
     let place : j * 8 + l * 4 + i ≡ j * 8 + (4 * l + i) = omega arith in
     ap (at sc) place ∙ at-constant z sc e j (4 * l + i) hj (omega arith)
+
+-- and in the row of a step
+pub four-of-row : (z : WordSize) (c : List ℕ) (j : ℕ) → c ≡ tabulate 8 (constant z j) → (l : ℕ) → l < 2 → four c (4 * l) ≡ group (constant z j) l
+unfolding four group
+four-of-row z c j e l hl =
+    tabulate-cong 4 _ _
+    λ i hi.
+    ap (λ (s : List ℕ). at s (4 * l + i)) e ∙ at-tabulate 8 (constant z j) (4 * l + i) (omega arith)
 
 -- the words of four groups, one by one
 four-words : (x : List ℕ) → length x ≡ 4 → tabulate 4 (at x) ≡ x

@@ -1,14 +1,17 @@
 -- What the machine's operators give on words of w bits, in the definitions' terms.
 -- Assumes nothing.
 use mathlib.Core.Path.{_≡_, refl, sym, ap, ap₂, _∙_, subst, subst⁻¹}
+use mathlib.Core.Bool.{Bool, true, false}
 use Prim.Native.Nat.{ℕ, zero, suc, _+_, _-_, _*_, _/_, _%_, _^_, _≤_, _<_}
-use native.Mathlib.Nat.{le-of-lt, lt-of-le-of-lt, mul-le-mul-left, mul-lt-mul-of-pos-right, mod-lt, add-mod, mod-add-mod, add-mod-right, mod-eq-of-lt, mul-mod-left, add-zero, sub-zero, zero-add, zero-mul, mod-one, mod-self, div-one, div-eq-of-lt}
+use native.Mathlib.Nat.{le-of-lt, lt-of-le-of-lt, mul-le-mul-left, mul-lt-mul-of-pos-right, mod-lt, add-mod, mod-add-mod, add-mod-right, mod-eq-of-lt, mul-mod-left, add-comm, add-assoc, add-mul, mul-assoc, add-zero, sub-zero, zero-add, zero-mul, mod-one, mod-self, div-one, div-eq-of-lt}
 use native.Mathlib.Omega.{arith}
-use lib.Pow.{pow-pos, pow-lt, pow-add, mod-pow-add, shl-shr, shr-shr, shr-lt}
-use lib.Arith.{lt-one}
-use lib.Bits.{bitOr, bitXor, or-shifted, or-shifted-r, xor-step, differ}
+use lib.Dec.{leb}
+use lib.Pow.{pow-pos, pow-lt, pow-add, mod-pow-add, shl-shr, shr-shr, shr-lt, shr-le, low, high, split}
+use lib.Arith.{lt-one, digits-lt, digits-div}
+use lib.Bits.{bitOr, bitXor, or-shifted, or-shifted-r, xor-shifted, xor-step, differ}
+use borrow.Author.Tests.{leb-true, leb-false}
 use Rattle.lsh.specs.Word.{add, subtract, turn, rotateLeft, rotateRight, xor}
-use Rattle.lsh.proofs.Word.{sub-add, low-first, high-first, rotateLeft-lt}
+use Rattle.lsh.proofs.Word.{sub-add, low-first, high-first, rotateLeft-lt, right-left}
 
 -- rotations: `x << k | x >> j`, and the other way round, in a word of j + k bits
 up : (j k x : ℕ) → (x * 2 ^ k) % 2 ^ (j + k) ≡ (x % 2 ^ j) * 2 ^ k
@@ -66,6 +69,64 @@ right-left-is w zero x hk hx =
 right-left-is w (suc k) x hk hx =
     let less : (w - suc k) % w ≡ w - suc k = mod-eq-of-lt (omega arith) in
     ap (λ (l : ℕ). rotateLeft w l x) less ∙ left-right-is w (w - suc k) (suc k) x (omega arith)
+
+-- two rotations, by i and then by k, of a + i + k bits: one by i + k
+turn-more : (a i k x : ℕ) → x < 2 ^ (i + (a + k)) → turn (a + i) k (turn (a + k) i x) ≡ turn a (i + k) x
+unfolding turn
+turn-more a i k x h =
+    let low-is : x % 2 ^ (a + k) ≡ mid * 2 ^ a + bot = ap (λ (n : ℕ). x % 2 ^ n) (add-comm a k) ∙ mod-pow-add x k a in
+    let once : (x % 2 ^ (a + k)) * 2 ^ i + top ≡ mid * 2 ^ (a + i) + rest =
+    ap (λ (n : ℕ). n * 2 ^ i + top) low-is
+    ∙ ap (λ (n : ℕ). n + top) (add-mul (mid * 2 ^ a) bot (2 ^ i) ∙ ap (λ (n : ℕ). n + bot * 2 ^ i) (mul-assoc mid (2 ^ a) (2 ^ i) ∙ ap (λ (n : ℕ). mid * n) (sym (pow-add 2 a i))))
+    ∙ add-assoc (mid * 2 ^ (a + i)) (bot * 2 ^ i) top in
+    let below : rest < 2 ^ (a + i) = rw (pow-add 2 a i) (digits-lt (mod-lt x (pow-pos a)) (shr-lt i (a + k) h)) in
+    ap₂ (λ (p q : ℕ). p * 2 ^ k + q) (ap (λ (n : ℕ). n % 2 ^ (a + i)) once ∙ low mid (a + i) below) (ap (λ (n : ℕ). n / 2 ^ (a + i)) once ∙ high mid (a + i) below)
+    ∙ ap (λ (n : ℕ). n + mid) (add-mul (bot * 2 ^ i) top (2 ^ k) ∙ ap (λ (n : ℕ). n + top * 2 ^ k) (mul-assoc bot (2 ^ i) (2 ^ k) ∙ ap (λ (n : ℕ). bot * n) (sym (pow-add 2 i k))))
+    ∙ add-assoc (bot * 2 ^ (i + k)) (top * 2 ^ k) mid
+    ∙ ap (λ (n : ℕ). bot * 2 ^ (i + k) + n) (ap (λ (n : ℕ). n * 2 ^ k + mid) (sym (shr-shr x a k)) ∙ split (x / 2 ^ a) k)
+  where
+    top : ℕ
+    top = x / 2 ^ (a + k)
+
+    mid : ℕ
+    mid = x / 2 ^ a % 2 ^ k
+
+    bot : ℕ
+    bot = x % 2 ^ a
+
+    rest : ℕ
+    rest = bot * 2 ^ i + top
+
+left-more : (w i k x : ℕ) → i + k ≤ w → x < 2 ^ w → rotateLeft w k (rotateLeft w i x) ≡ rotateLeft w (i + k) x
+unfolding rotateLeft
+left-more w i k x h hx =
+    let first : w - i ≡ w - (i + k) + k = omega arith in
+    let second : w - k ≡ w - (i + k) + i = omega arith in
+    let all : i + (w - (i + k) + k) ≡ w = omega arith in
+    ap₂ (λ (p q : ℕ). turn p k (turn q i x)) second first ∙ turn-more (w - (i + k)) i k x (rw all hx)
+
+pub left-left : (w i k x : ℕ) → i < w → k < w → x < 2 ^ w → rotateLeft w k (rotateLeft w i x) ≡ rotateLeft w ((i + k) % w) x
+left-left w i k x hi hk hx = go (leb w (i + k)) refl
+  where
+    Law : Type 0
+    Law = rotateLeft w k (rotateLeft w i x) ≡ rotateLeft w ((i + k) % w) x
+
+    go : (t : Bool) → leb w (i + k) ≡ t → Law
+    go false e =
+        let less : i + k < w = leb-false w (i + k) e in
+        left-more w i k x (le-of-lt less) hx ∙ ap (λ (n : ℕ). rotateLeft w n x) (sym (mod-eq-of-lt less))
+    -- w - i places of the second rotation take the first one back
+    go true e =
+        let y : ℕ = rotateLeft w i x in
+        let m : ℕ = i + k - w in
+        let past : w ≤ i + k = leb-true w (i + k) e in
+        let parts : k ≡ w - i + m = omega arith in
+        let sum : i + k ≡ m + w = omega arith in
+        let over : (i + k) % w ≡ m = ap (λ (n : ℕ). n % w) sum ∙ add-mod-right m w ∙ mod-eq-of-lt (omega arith) in
+        ap (λ (n : ℕ). rotateLeft w n y) parts
+        ∙ sym (left-more w (w - i) m y (omega arith) (rotateLeft-lt w i x (le-of-lt hi) hx))
+        ∙ ap (rotateLeft w m) (left-right-is w (w - i) i y (omega arith) ∙ right-left w i x (le-of-lt hi) hx)
+        ∙ ap (λ (n : ℕ). rotateLeft w n x) (sym over)
 
 -- two shifts whose amounts are the width together
 pub turned-is : (w l h x : ℕ) → l + h ≡ w → x < 2 ^ w
@@ -141,3 +202,32 @@ xor-is (suc w) x y hx hy =
     ∙ ap₂ (λ (p q : ℕ). p * 2 + q)
     (xor-is w (x / 2) (y / 2) (omega arith) (omega arith))
     (digit (x % 2) (y % 2) (mod-lt x two-pos) (mod-lt y two-pos) ∙ sym (add-mod x y 2))
+
+xor-comm : (w x y : ℕ) → xor w x y ≡ xor w y x
+unfolding xor
+xor-comm zero x y = refl
+xor-comm (suc w) x y = ap₂ (λ (p q : ℕ). p * 2 + q) (xor-comm w (x / 2) (y / 2)) (ap (λ (n : ℕ). n % 2) (add-comm x y))
+
+xor-assoc : (w x y u : ℕ) → xor w (xor w x y) u ≡ xor w x (xor w y u)
+unfolding xor
+xor-assoc zero x y u = refl
+xor-assoc (suc w) x y u =
+    let p : ℕ = xor w (x / 2) (y / 2) in
+    let q : ℕ = xor w (y / 2) (u / 2) in
+    let low : (p * 2 + (x + y) % 2 + u) % 2 ≡ (x + (q * 2 + (y + u) % 2)) % 2 = omega arith in
+    ap₂ (λ (m n : ℕ). m * 2 + n)
+    (ap (λ (n : ℕ). xor w n (u / 2)) (digits-div p (mod-lt (x + y) two-pos)) ∙ xor-assoc w (x / 2) (y / 2) (u / 2) ∙ ap (xor w (x / 2)) (sym (digits-div q (mod-lt (y + u) two-pos))))
+    low
+
+-- the two parts of a rotation are xored with c one after the other
+pub xor-left : (w k x c : ℕ) → k ≤ w → x < 2 ^ w → xor w (xor w c ((x * 2 ^ k) % 2 ^ w)) (x / 2 ^ (w - k)) ≡ xor w (rotateLeft w k x) c
+unfolding rotateLeft turn
+xor-left w k x c hk hx =
+    let e : w - k + k ≡ w = omega arith in
+    let up-is : (x * 2 ^ k) % 2 ^ w ≡ (x % 2 ^ (w - k)) * 2 ^ k = ap (λ (n : ℕ). (x * 2 ^ k) % 2 ^ n) (sym e) ∙ up (w - k) k x in
+    let below : x / 2 ^ (w - k) < 2 ^ k = shr-lt k (w - k) (low-first w k x hk hx) in
+    let parts : xor w ((x * 2 ^ k) % 2 ^ w) (x / 2 ^ (w - k)) ≡ (x % 2 ^ (w - k)) * 2 ^ k + x / 2 ^ (w - k) =
+    sym (xor-is w ((x * 2 ^ k) % 2 ^ w) (x / 2 ^ (w - k)) (mod-lt (x * 2 ^ k) (pow-pos w)) (lt-of-le-of-lt (shr-le x (w - k)) hx))
+    ∙ ap (λ (n : ℕ). bitXor n (x / 2 ^ (w - k))) up-is
+    ∙ xor-shifted (x % 2 ^ (w - k)) k (x / 2 ^ (w - k)) below in
+    xor-assoc w c ((x * 2 ^ k) % 2 ^ w) (x / 2 ^ (w - k)) ∙ xor-comm w c _ ∙ ap (λ (n : ℕ). xor w n c) parts

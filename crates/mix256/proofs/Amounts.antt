@@ -1,19 +1,20 @@
 -- The amounts of the steps, as the code has them: from step to step, and as rotations of a group.
 -- Assumes nothing.
-use mathlib.Core.Path.{_≡_, refl, sym, ap, _∙_}
+use mathlib.Core.Path.{_≡_, refl, sym, ap, ap₂, _∙_, subst⁻¹}
 use mathlib.Core.List.{List, [], _∷_}
-use Prim.Native.Nat.{ℕ, zero, suc, _+_, _-_, _*_, _%_, _^_, _<_}
+use Prim.Native.Nat.{ℕ, zero, suc, _+_, _-_, _*_, _/_, _%_, _^_, _<_}
 use native.Mathlib.Nat.{one-mul, mod-eq-of-lt}
 use native.Mathlib.Omega.{arith}
 use lib.Pow.{pow-lt}
 use Rattle.lsh.specs.Tabulate.{at}
-use Rattle.lsh.specs.Word.{subtract, rotateLeft, rotateRight}
+use Rattle.lsh.specs.Word.{add, subtract, rotateLeft, rotateRight}
 use Rattle.lsh.specs.WordSize.{WordSize, lsh256, alpha, beta, gamma}
+use Rattle.lsh.proofs.Word.{add-lt}
 use Rattle.lsh.proofs.Figures.{Amounts}
 use Rattle.lsh.proofs.Tabulate.{at-tabulate, tabulate-cong}
-use Rattle.groups.specs.Group.{group, wordwise}
-use Rattle.loops.proofs.Machine.{right-left-is}
-use Rattle.mix256.specs.Amounts.{shifts, remaining, powers}
+use Rattle.groups.specs.Group.{group, eachWord, wordwise}
+use Rattle.loops.proofs.Machine.{left-left, right-left-is}
+use Rattle.mix256.specs.Amounts.{shifts, betaGamma, remaining, powers}
 
 -- the shifts by the parity of the step
 shiftsAt : WordSize → ℕ → List ℕ
@@ -83,20 +84,43 @@ shifts-are j {k} e =
 pub shifted-one : (k : ℕ) → k < 32 → (1 * 2 ^ k) % 2 ^ 64 ≡ 2 ^ k
 shifted-one k h = ap (λ (n : ℕ). n % 2 ^ 64) (one-mul (2 ^ k)) ∙ mod-eq-of-lt (pow-lt {i = k} {j = 64} (omega arith))
 
--- the power of lane l
-pub at-powers : (f : ℕ → ℕ) (pw : List ℕ) → pw ≡ powers f → (q l : ℕ) → q < 16 → q % 8 ≡ l → at pw q ≡ 2 ^ f l
+-- the power of lane l in step i
+pub at-powers : (f : ℕ → ℕ → ℕ) (pw : List ℕ) → pw ≡ powers f → (q i l : ℕ) → q < 32 → q / 8 ≡ i → q % 8 ≡ l → at pw q ≡ 2 ^ f i l
 unfolding powers
-at-powers f pw e q l hq el = ap (λ (s : List ℕ). at s q) e ∙ at-tabulate 16 (λ k. 2 ^ f (k % 8)) q hq ∙ ap (λ (n : ℕ). 2 ^ f n) el
+at-powers f pw e q i l hq ei el =
+    ap (λ (s : List ℕ). at s q) e ∙ at-tabulate 32 (λ k. 2 ^ f (k / 8) (k % 8)) q hq ∙ ap₂ (λ (m n : ℕ). 2 ^ f m n) ei el
+
+-- sums are words
+pub sums-below : (w : ℕ) (x y : List ℕ) {s : List ℕ} → s ≡ wordwise (add w) x y → (i : ℕ) → i < 4 → at s i < 2 ^ w
+unfolding wordwise
+sums-below w x y {s} e i hi = subst⁻¹ (λ (n : ℕ). n < 2 ^ w) (ap (λ (u : List ℕ). at u i) e ∙ at-tabulate 4 (λ k. add w (at x k) (at y k)) i hi) (add-lt w (at x i) (at y i))
+
+-- the rotations by beta and by gamma as one
+pub beta-gamma-less : (j l : ℕ) → betaGamma lsh256 j l < 32
+unfolding betaGamma lsh256
+beta-gamma-less j l = omega arith
+
+-- the amounts come again after four steps
+pub beta-gamma-is : (z : WordSize) → Amounts z → (j l : ℕ) (y : List ℕ) → ((i : ℕ) → i < 4 → at y i < 2 ^ z .bits)
+    → wordwise (rotateLeft (z .bits)) (group (betaGamma z (j % 4)) l) y ≡ wordwise (rotateLeft (z .bits)) (group (gamma z) l) (eachWord (rotateLeft (z .bits) (beta z j)) y)
+unfolding wordwise eachWord group betaGamma beta
+beta-gamma-is z ok j l y below =
+    tabulate-cong 4 _ _
+    λ i hi.
+    let again : j % 4 % 2 ≡ j % 2 = omega arith in
+    ap (λ (k : ℕ). rotateLeft (z .bits) k (at y i)) (at-tabulate 4 (λ m. (at (z .betas) (j % 4 % 2) + gamma z (4 * l + m)) % z .bits) i hi ∙ ap (λ (p : ℕ). (at (z .betas) p + gamma z (4 * l + i)) % z .bits) again)
+    ∙ sym (left-left (z .bits) (at (z .betas) (j % 2)) (gamma z (4 * l + i)) (at y i) (ok .β j) (ok .γ (4 * l + i)) (below i hi))
+    ∙ sym (ap₂ (rotateLeft (z .bits)) (at-tabulate 4 (λ m. gamma z (4 * l + m)) i hi) (at-tabulate 4 (λ m. rotateLeft (z .bits) (at (z .betas) (j % 2)) (at y m)) i hi))
 
 -- the rotations to the right by gamma, as rotations to the left
-pub remaining-less : (l : ℕ) → remaining lsh256 l < 32
+pub remaining-less : (j l : ℕ) → remaining lsh256 j l < 32
 unfolding remaining lsh256
-remaining-less l = omega arith
+remaining-less j l = omega arith
 
-pub remaining-is : (z : WordSize) → Amounts z → (l : ℕ) (y : List ℕ) → ((i : ℕ) → at y i < 2 ^ z .bits)
-    → wordwise (rotateLeft (z .bits)) (group (remaining z) l) y ≡ wordwise (rotateRight (z .bits)) (group (gamma z) l) y
+pub remaining-is : (z : WordSize) → Amounts z → (j l : ℕ) (y : List ℕ) → ((i : ℕ) → at y i < 2 ^ z .bits)
+    → wordwise (rotateLeft (z .bits)) (group (remaining z j) l) y ≡ wordwise (rotateRight (z .bits)) (group (gamma z) l) y
 unfolding wordwise group remaining
-remaining-is z ok l y below =
+remaining-is z ok j l y below =
     tabulate-cong 4 _ _
     λ i hi.
     ap (λ (k : ℕ). rotateLeft (z .bits) k (at y i)) (at-tabulate 4 (λ m. (z .bits - gamma z (4 * l + m)) % z .bits) i hi)

@@ -2,17 +2,17 @@
 // processor's four-word instructions: a rotation that it recognises it would do word by word, so a rotation is here two shifts whose amounts come with the step, or
 // the two halves of a product with a power of two.
 ghost use mathlib.Core.Path.{_≡_};
-ghost use Prim.Native.Nat.{ℕ, _+_, _^_, _<_, _≤_};
+ghost use Prim.Native.Nat.{ℕ, _+_, _%_, _^_, _<_, _≤_};
 ghost use lib.ListN.{length};
-ghost use Rattle.lsh.specs.Tabulate.{at};
+ghost use Rattle.lsh.specs.Tabulate.{at, tabulate};
 ghost use Rattle.lsh.specs.Word.{add, subtract, rotateLeft, rotateRight, xor};
-ghost use Rattle.lsh.specs.WordSize.{lsh256, gamma};
-ghost use Rattle.lsh.specs.StepConstants.{constants};
+ghost use Rattle.lsh.specs.WordSize.{lsh256};
+ghost use Rattle.lsh.specs.StepConstants.{constant, constants};
 ghost use Rattle.lsh.specs.Step.{mix, unmix};
 ghost use Rattle.groups.specs.Group.{group, eachWord, wordwise};
 ghost use Rattle.groups.specs.GroupStep.{pair, groups, inWords, mixPair, unmixPair};
 ghost use Rattle.loops.specs.Fours.{four};
-ghost use Rattle.mix256.specs.Amounts.{shifts, remaining, powers};
+ghost use Rattle.mix256.specs.Amounts.{shifts, betaGamma, remaining, powers};
 use constants256::Lsh256;
 
 // The groups X and Y of the same lanes.
@@ -31,29 +31,30 @@ const GAMMA: [u32; 8] = [0, 8, 16, 24, 24, 16, 8, 0];
 
 const REMAINING: [u32; 8] = [0, 24, 16, 8, 8, 16, 24, 0];
 
-// 2 to each of these amounts, for the even steps and once more for the odd: so a power depends on the step, and the compiler looks it up and makes no rotation of the product.
-fn powers_of(g: [u32; 8]) -> [u64; 16]
-    requires { ⌜ ((l : ℕ) → at g l < 32) ⌝ }
-    ensures { λ r. ⌜ r ≡ powers (at g) ⌝ }
+// 2 to the sums of an amount of the step, which comes again after two steps, and one of the lane. Four steps have rows of their own: so a power depends on the step where the
+// step is known to be even or odd, and the compiler looks it up and makes no rotation of the product.
+fn powers_of(b: [u32; 2], g: [u32; 8]) -> [u64; 32]
+    requires { ⌜ ((i : ℕ) → at b i < 32) × ((l : ℕ) → at g l < 32) ⌝ }
+    ensures { λ r. ⌜ r ≡ powers (λ j l. (at b (j % 2) + at g l) % 32) ⌝ }
 {
-    let mut r = [0u64; 16];
-    for k in 0..16 {
-        r[k] = 1u64 << g[k % 8];
+    let mut r = [0u64; 32];
+    for k in 0..32 {
+        r[k] = 1u64 << (b[k / 8 % 2] + g[k % 8]) % 32;
     }
     r
 }
 
 // The powers for a run forward, and for one backward. A run of blocks works them out once, and lends them on.
-pub fn powers() -> [u64; 16]
-    ensures { λ r. ⌜ r ≡ powers (gamma lsh256) ⌝ }
+pub fn powers() -> [u64; 32]
+    ensures { λ r. ⌜ r ≡ powers (betaGamma lsh256) ⌝ }
 {
-    powers_of(GAMMA)
+    powers_of([EVEN[2], ODD[2]], GAMMA)
 }
 
-pub fn back_powers() -> [u64; 16]
+pub fn back_powers() -> [u64; 32]
     ensures { λ r. ⌜ r ≡ powers (remaining lsh256) ⌝ }
 {
-    powers_of(REMAINING)
+    powers_of([0, 0], REMAINING)
 }
 
 // The shifts of step j.
@@ -66,7 +67,7 @@ pub fn shifts(j: usize) -> [u32; 4]
     ODD
 }
 
-// The shifts of the next step, from those of a step: a shift of an even step and that of an odd one have the same sum. So the amounts go from step to step in variables.
+// The shifts of the next step, from those of a step: a shift of an even step and that of an odd one have the same sum. So backward the amounts go from step to step in variables.
 pub fn next_shifts(k: [u32; 4]) -> [u32; 4]
     ensures { λ r. ⌜ ((j : ℕ) → k ≡ shifts lsh256 j → r ≡ shifts lsh256 (j + 1)) ⌝ }
 {
@@ -158,12 +159,12 @@ fn turn_by_power(x: u32, p: u64) -> u32
     word32::add((q % 4294967296) as u32, (q >> 32) as u32)
 }
 
-// Each word by the amount of its lane, 4l to 4l + 3: f of the lane, if the powers are those of f.
-fn turn_by_powers(pw: &[u64; 16], j: usize, l: usize, a: [u32; 4]) -> [u32; 4]
+// Each word by the amount of its lane, 4l to 4l + 3, in step j: f of both, if the powers are those of f.
+fn turn_by_powers(pw: &[u64; 32], j: usize, l: usize, a: [u32; 4]) -> [u32; 4]
     requires { ⌜ l < 2 ⌝ }
-    ensures { λ r. ⌜ ((f : ℕ → ℕ) → ((k : ℕ) → f k < 32) → now (pw .entry) ≡ powers f → r ≡ wordwise (rotateLeft 32) (group f l) a) ⌝ }
+    ensures { λ r. ⌜ ((f : ℕ → ℕ → ℕ) → ((i k : ℕ) → f i k < 32) → now (pw .entry) ≡ powers f → r ≡ wordwise (rotateLeft 32) (group (f (j % 4)) l) a) ⌝ }
 {
-    let p = j % 2 * 8 + l * 4;
+    let p = j % 4 * 8 + l * 4;
     let mut r = [0u32; 4];
     for i in 0..4 {
         r[i] = turn_by_power(a[i], pw[p + i]);
@@ -171,31 +172,70 @@ fn turn_by_powers(pw: &[u64; 16], j: usize, l: usize, a: [u32; 4]) -> [u32; 4]
     r
 }
 
-// Lanes 4l to 4l + 3 of step j, whose shifts are k.
+// The rotation of u by l to the left, where h is what is left of the width, xored with c: its two parts one after the other, since a rotation by a constant the compiler
+// would recognise. And the same, added to x.
+fn xor_turned(u: u32, c: u32, l: u32, h: u32) -> u32
+    requires { ⌜ (l < 32) × (h < 32) × (l + h ≡ 32) ⌝ }
+    ensures { λ r. ⌜ r ≡ xor 32 (rotateLeft 32 l u) c ⌝ }
+{
+    word32::exclusive_or(word32::exclusive_or(c, u << l), u >> h)
+}
+
+fn add_turned(x: u32, u: u32, l: u32, h: u32) -> u32
+    requires { ⌜ (l < 32) × (h < 32) × (l + h ≡ 32) ⌝ }
+    ensures { λ r. ⌜ r ≡ add 32 x (rotateLeft 32 l u) ⌝ }
+{
+    word32::add(word32::add(x, u >> h), u << l)
+}
+
+fn xor_turned_each(u: [u32; 4], c: [u32; 4], l: u32, h: u32) -> [u32; 4]
+    requires { ⌜ (l < 32) × (h < 32) × (l + h ≡ 32) ⌝ }
+    ensures { λ r. ⌜ r ≡ wordwise (xor 32) (eachWord (rotateLeft 32 l) u) c ⌝ }
+{
+    [
+        xor_turned(u[0], c[0], l, h),
+        xor_turned(u[1], c[1], l, h),
+        xor_turned(u[2], c[2], l, h),
+        xor_turned(u[3], c[3], l, h),
+    ]
+}
+
+fn add_turned_each(x: [u32; 4], u: [u32; 4], l: u32, h: u32) -> [u32; 4]
+    requires { ⌜ (l < 32) × (h < 32) × (l + h ≡ 32) ⌝ }
+    ensures { λ r. ⌜ r ≡ wordwise (add 32) x (eachWord (rotateLeft 32 l) u) ⌝ }
+{
+    [
+        add_turned(x[0], u[0], l, h),
+        add_turned(x[1], u[1], l, h),
+        add_turned(x[2], u[2], l, h),
+        add_turned(x[3], u[3], l, h),
+    ]
+}
+
+// Lanes 4l to 4l + 3 of step j, whose constants are c and whose shifts are k. Y is rotated by beta and by gamma in one product.
 fn mix_pair(
-    sc: &[u32; Lsh256::CONSTANTS],
-    pw: &[u64; 16],
+    c: [u32; 4],
+    pw: &[u64; 32],
     k: [u32; 4],
     j: usize,
     l: usize,
     x: [u32; 4],
     y: [u32; 4],
 ) -> Pair
-    requires { ⌜ (now sc ≡ constants lsh256) × (now pw ≡ powers (gamma lsh256)) × (k ≡ shifts lsh256 j) × (j < lsh256 .steps) × (l < 2) ⌝ }
+    requires { ⌜ (c ≡ group (constant lsh256 j) l) × (now pw ≡ powers (betaGamma lsh256)) × (k ≡ shifts lsh256 j) × (l < 2) ⌝ }
     ensures { λ r. ⌜ pair (r .x) (r .y) ≡ mixPair lsh256 j l (pair x y) ⌝ }
 {
-    let c = four(sc, j * 8 + l * 4);
-    let x1 = xor(turn_each(add(x, y), k[0], k[1]), c);
-    let y1 = turn_each(add(y, x1), k[2], k[3]);
+    let x1 = xor_turned_each(add(x, y), c, k[0], k[1]);
+    let y1 = add(y, x1);
     Pair {
-        x: add(x1, y1),
+        x: add_turned_each(x1, y1, k[2], k[3]),
         y: turn_by_powers(pw, j, l, y1),
     }
 }
 
 fn unmix_pair(
     sc: &[u32; Lsh256::CONSTANTS],
-    pw: &[u64; 16],
+    pw: &[u64; 32],
     k: [u32; 4],
     j: usize,
     l: usize,
@@ -239,19 +279,25 @@ fn in_words(x0: [u32; 4], x1: [u32; 4], y0: [u32; 4], y1: [u32; 4]) -> [u32; 16]
     ]
 }
 
-// The mix of step j (10), whose shifts are k.
-pub fn mix(
-    sc: &[u32; Lsh256::CONSTANTS],
-    pw: &[u64; 16],
-    k: [u32; 4],
-    j: usize,
-    t: [u32; 16],
-) -> [u32; 16]
-    requires { ⌜ (now sc ≡ constants lsh256) × (now pw ≡ powers (gamma lsh256)) × (k ≡ shifts lsh256 j) × (j < lsh256 .steps) ⌝ }
+// The constants of step j.
+pub fn constants(sc: &[u32; Lsh256::CONSTANTS], j: usize) -> [u32; 8]
+    requires { ⌜ (now sc ≡ constants lsh256) × (j < lsh256 .steps) ⌝ }
+    ensures { λ r. ⌜ r ≡ tabulate 8 (constant lsh256 j) ⌝ }
+{
+    let mut r = [0u32; 8];
+    for l in 0..8 {
+        r[l] = sc[j * 8 + l];
+    }
+    r
+}
+
+// The mix of step j (10), whose constants are c and whose shifts are k.
+pub fn mix(c: [u32; 8], pw: &[u64; 32], k: [u32; 4], j: usize, t: [u32; 16]) -> [u32; 16]
+    requires { ⌜ (c ≡ tabulate 8 (constant lsh256 j)) × (now pw ≡ powers (betaGamma lsh256)) × (k ≡ shifts lsh256 j) ⌝ }
     ensures { λ r. ⌜ r ≡ mix lsh256 j t ⌝ }
 {
-    let p = mix_pair(sc, pw, k, j, 0, four(&t, 0), four(&t, 8));
-    let q = mix_pair(sc, pw, k, j, 1, four(&t, 4), four(&t, 12));
+    let p = mix_pair(four(&c, 0), pw, k, j, 0, four(&t, 0), four(&t, 8));
+    let q = mix_pair(four(&c, 4), pw, k, j, 1, four(&t, 4), four(&t, 12));
     let x0 = p.x;
     let x1 = q.x;
     let y0 = p.y;
@@ -261,7 +307,7 @@ pub fn mix(
 
 pub fn unmix(
     sc: &[u32; Lsh256::CONSTANTS],
-    pw: &[u64; 16],
+    pw: &[u64; 32],
     k: [u32; 4],
     j: usize,
     t: [u32; 16],

@@ -7,8 +7,8 @@ pub expand-row-spec : {M : Type 1} → statement M
 expand-row-spec =
     tie.close
     (tie.spec
-    (λ c. search needs)
     (λ c κs. search needs)
+    (λ c. search needs)
     (λ c κs. search needs)
     (λ c κs. search needs)
     (λ c. search needs)

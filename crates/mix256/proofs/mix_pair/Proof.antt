@@ -1,13 +1,10 @@
 -- `mix256::mix_pair` meets its contract. Assumes nothing.
-use mathlib.Core.Path.{_≡_}
-use native.Mathlib.Omega.{arith}
 use borrow.Author.Needs.{needs}
-use lib.ListN.{length}
-use Rattle.lsh.specs.WordSize.{lsh256, gamma}
+use Rattle.lsh.specs.WordSize.{lsh256}
 use Rattle.lsh.proofs.Figures.{amounts256}
 use Rattle.groups.specs.GroupStep.{mixPair}
-use Rattle.loops.proofs.Groups.{four-constants}
-use Rattle.mix256.proofs.Amounts.{Shifts, shifts-are}
+use Rattle.mix256.specs.Amounts.{betaGamma}
+use Rattle.mix256.proofs.Amounts.{Shifts, shifts-are, sums-below, beta-gamma-less, beta-gamma-is}
 use Rattle.mix256.proofs.mix_pair.Statement.{statement}
 use Rattle.mix256.proofs.mix_pair.Tie as tie
 
@@ -21,33 +18,26 @@ unfolding lsh256 mixPair
 mix-pair-spec =
     tie.close
     (tie.spec
-    (λ c. omega arith)
-    (λ c. omega arith)
-    (λ c. omega arith)
-    (λ c κs. let size : length (c .before .args .sc .now) ≡ 208 = search needs in omega arith)
     (λ c κs. search needs)
     (λ c. search needs)
     (λ c. search needs)
-    (λ c κs. k (c .before .before .before) .α-turn)
-    (λ c κs. search needs)
+    (λ c κs. k (c .before) .α-turn)
     (λ c κs. search needs)
     (λ c. search needs)
     (λ c. search needs)
-    (λ c κs. k (c .before .before .before .before .before .before) .β-turn)
-    (λ c κs. search needs)
+    (λ c κs. k (c .before .before .before) .β-turn)
     (λ c κs. search needs)
     (λ c.
-    let z = c .before .before .before .before .before .before .before .before .before in
+    let z = c .before .before .before .before .before in
+    let s = c .before .before in
     rw (
-      c .turn-by-powers .ensures (gamma lsh256) (amounts256 .γ) (z .pre .1),
-      c .before .add3 .ensures,
-      c .before .before .turn-each2 .ensures .0,
-      c .before .before .before .add2 .ensures,
-      c .before .before .before .before .xor .ensures,
-      c .before .before .before .before .before .turn-each .ensures .0,
-      c .before .before .before .before .before .before .add .ensures,
-      c .before .before .before .before .before .before .before .four .ensures,
-      four-constants lsh256 (z .args .sc .now) (z .pre .0) (z .args .j) (z .args .l) (z .pre .3) (z .pre .4),
+      c .turn-by-powers .ensures (betaGamma lsh256) beta-gamma-less (z .pre .1),
+      beta-gamma-is lsh256 amounts256 (z .args .j) (z .args .l) _ (sums-below 32 _ _ (s .add2 .ensures)),
+      c .before .add-turned-each .ensures,
+      s .add2 .ensures,
+      s .before .xor-turned-each .ensures,
+      s .before .before .add .ensures,
+      z .pre .0,
       k z .α,
       k z .β,
     )))

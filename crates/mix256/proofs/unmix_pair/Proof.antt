@@ -1,5 +1,6 @@
 -- `mix256::unmix_pair` meets its contract. Assumes nothing.
 use mathlib.Core.Path.{_≡_}
+use Prim.Native.Nat.{_%_}
 use native.Mathlib.Omega.{arith}
 use borrow.Author.Needs.{needs, elem-fits}
 use mir.Syntax.{w32}
@@ -48,7 +49,7 @@ unmix-pair-spec =
       c .before .before .before .before .turn-each .ensures .1,
       c .before .before .before .before .before .subtract .ensures,
       c .before .before .before .before .before .before .turn-by-powers .ensures (remaining lsh256) remaining-less (z .pre .1),
-      remaining-is lsh256 amounts256 (z .args .l) (z .args .y) (λ i. elem-fits w32 w32 (z .args .y) _ i (z .good .1 .1 .1 .1 .1 .1 .0 .1 .1) tt .fits),
+      remaining-is lsh256 amounts256 (z .args .j % 4) (z .args .l) (z .args .y) (λ i. elem-fits w32 w32 (z .args .y) _ i (z .good .1 .1 .1 .1 .1 .1 .0 .1 .1) tt .fits),
       c .before .before .before .before .before .before .before .four .ensures,
       four-constants lsh256 (z .args .sc .now) (z .pre .0) (z .args .j) (z .args .l) (z .pre .3) (z .pre .4),
       k z .α,
