@@ -33,19 +33,12 @@ fn step(c: [u32; 8], pw: &[u64; 32], k: [u32; 4], j: usize, m: &[u32], t: [u32; 
     ))
 }
 
-fn unstep(
-    sc: &[u32; Lsh256::CONSTANTS],
-    pw: &[u64; 32],
-    k: [u32; 4],
-    j: usize,
-    m: &[u32],
-    t: [u32; 16],
-) -> [u32; 16]
-    requires { ⌜ (now sc ≡ constants lsh256) × (now pw ≡ powers (remaining lsh256)) × (k ≡ shifts lsh256 j) × (j < lsh256 .steps) × (j * 16 + 16 ≤ length (now m)) ⌝ }
+fn unstep(c: [u32; 8], pw: &[u64; 32], k: [u32; 4], j: usize, m: &[u32], t: [u32; 16]) -> [u32; 16]
+    requires { ⌜ (c ≡ tabulate 8 (constant lsh256 j)) × (now pw ≡ powers (remaining lsh256)) × (k ≡ shifts lsh256 j) × (j * 16 + 16 ≤ length (now m)) ⌝ }
     ensures { λ r. ⌜ r ≡ unstep lsh256 j (row (now (m .entry)) j) t ⌝ }
 {
     steps256::add_message(
-        mix256::unmix(sc, pw, k, j, steps256::unpermute(t)),
+        mix256::unmix(c, pw, k, j, steps256::unpermute(t)),
         lsh256::sub_message(m, j),
     )
 }
@@ -73,7 +66,7 @@ struct Stepped {
     count: usize,
 }
 
-// Step j, if it is even.
+// Step j, if it is even. The shifts are then constants to the compiler.
 fn even_step(
     sc: &[u32; Lsh256::CONSTANTS],
     pw: &[u64; 32],
@@ -99,8 +92,8 @@ fn even_step(
     }
 }
 
-// The steps from j on, below the number of steps, as long as they are odd: so at most one. To the compiler it is a loop of its own, and what it does not do on
-// a run of different steps it does on the turns of a loop: it takes the words of a group together.
+// The steps from j on, below the number of steps, as long as they are odd: one at most. It is a loop since the compiler takes four words together only from one turn of a
+// loop to the next, and not over two steps in one turn.
 fn odd_steps(
     sc: &[u32; Lsh256::CONSTANTS],
     pw: &[u64; 32],
@@ -127,8 +120,7 @@ fn odd_steps(
     }
 }
 
-// The steps on the chain t, and then M_steps, for the block whose words stand first in m. An even and an odd step have functions of their own, in which their shifts are
-// constants.
+// The steps on the chain t, an even one and an odd one a turn, and then M_steps, for the block whose words stand first in m.
 fn all_steps(
     sc: &[u32; Lsh256::CONSTANTS],
     pw: &[u64; 32],
@@ -168,7 +160,8 @@ fn all_unsteps(
     let mut j = steps;
     while 0 < j {
         j -= 1;
-        let u = unstep(sc, pw, k, j, m, r);
+        let c = mix256::constants(sc, j);
+        let u = unstep(c, pw, k, j, m, r);
         r = u;
         let n = mix256::next_shifts(k);
         k = n;

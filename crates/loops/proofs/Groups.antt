@@ -16,7 +16,7 @@ use Rattle.groups.proofs.Parts.{mixed-words, unmixed-words}
 use Rattle.loops.specs.Fours.{four}
 use Rattle.loops.proofs.Constants.{at-constant}
 
--- four step constants from the first lane of a group on
+-- four step constants from the first lane of a group on, in the array of all
 pub four-constants : (z : WordSize) (sc : List ℕ) → sc ≡ constants z → (j l : ℕ) → j < z .steps → l < 2 → four sc (j * 8 + l * 4) ≡ group (constant z j) l
 unfolding four group
 four-constants z sc e j l hj hl =

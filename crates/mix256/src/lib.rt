@@ -1,6 +1,6 @@
-// The mix of LSH-256 in groups of four words (22), forward and backward. A group in this shape, one step a turn of the caller's loop, makes the compiler use the
-// processor's four-word instructions: a rotation that it recognises it would do word by word, so a rotation is here two shifts whose amounts come with the step, or
-// the two halves of a product with a power of two.
+// The mix of LSH-256 in groups of four words (22), forward and backward. A group in this shape makes the compiler use the processor's four-word instructions: a rotation
+// that it recognises it would do word by word. So a rotation is here two shifts, which forward are added or xored to another word one after the other, and whose amounts
+// backward are variables; or the two halves of a product with a power of two.
 ghost use mathlib.Core.Path.{_≡_};
 ghost use Prim.Native.Nat.{ℕ, _+_, _%_, _^_, _<_, _≤_};
 ghost use lib.ListN.{length};
@@ -31,8 +31,8 @@ const GAMMA: [u32; 8] = [0, 8, 16, 24, 24, 16, 8, 0];
 
 const REMAINING: [u32; 8] = [0, 24, 16, 8, 8, 16, 24, 0];
 
-// 2 to the sums of an amount of the step, which comes again after two steps, and one of the lane. Four steps have rows of their own: so a power depends on the step where the
-// step is known to be even or odd, and the compiler looks it up and makes no rotation of the product.
+// 2 to the sums of an amount of the step, which comes again after two steps, and one of the lane. There are rows for four steps: so a power is not known where the step is
+// only known to be even or odd, and the compiler looks it up and makes no rotation of the product.
 fn powers_of(b: [u32; 2], g: [u32; 8]) -> [u64; 32]
     requires { ⌜ ((i : ℕ) → at b i < 32) × ((l : ℕ) → at g l < 32) ⌝ }
     ensures { λ r. ⌜ r ≡ powers (λ j l. (at b (j % 2) + at g l) % 32) ⌝ }
@@ -172,8 +172,7 @@ fn turn_by_powers(pw: &[u64; 32], j: usize, l: usize, a: [u32; 4]) -> [u32; 4]
     r
 }
 
-// The rotation of u by l to the left, where h is what is left of the width, xored with c: its two parts one after the other, since a rotation by a constant the compiler
-// would recognise. And the same, added to x.
+// u rotated by l to the left, where h is what is left of the width, xored with c, and added to x: in two parts, one after the other.
 fn xor_turned(u: u32, c: u32, l: u32, h: u32) -> u32
     requires { ⌜ (l < 32) × (h < 32) × (l + h ≡ 32) ⌝ }
     ensures { λ r. ⌜ r ≡ xor 32 (rotateLeft 32 l u) c ⌝ }
@@ -234,7 +233,7 @@ fn mix_pair(
 }
 
 fn unmix_pair(
-    sc: &[u32; Lsh256::CONSTANTS],
+    c: [u32; 4],
     pw: &[u64; 32],
     k: [u32; 4],
     j: usize,
@@ -242,10 +241,9 @@ fn unmix_pair(
     x: [u32; 4],
     y: [u32; 4],
 ) -> Pair
-    requires { ⌜ (now sc ≡ constants lsh256) × (now pw ≡ powers (remaining lsh256)) × (k ≡ shifts lsh256 j) × (j < lsh256 .steps) × (l < 2) ⌝ }
+    requires { ⌜ (c ≡ group (constant lsh256 j) l) × (now pw ≡ powers (remaining lsh256)) × (k ≡ shifts lsh256 j) × (l < 2) ⌝ }
     ensures { λ r. ⌜ pair (r .x) (r .y) ≡ unmixPair lsh256 j l (pair x y) ⌝ }
 {
-    let c = four(sc, j * 8 + l * 4);
     let y1 = turn_by_powers(pw, j, l, y);
     let x1 = subtract(x, y1);
     let y0 = subtract(turn_each(y1, k[3], k[2]), x1);
@@ -305,18 +303,12 @@ pub fn mix(c: [u32; 8], pw: &[u64; 32], k: [u32; 4], j: usize, t: [u32; 16]) -> 
     in_words(x0, x1, y0, y1)
 }
 
-pub fn unmix(
-    sc: &[u32; Lsh256::CONSTANTS],
-    pw: &[u64; 32],
-    k: [u32; 4],
-    j: usize,
-    t: [u32; 16],
-) -> [u32; 16]
-    requires { ⌜ (now sc ≡ constants lsh256) × (now pw ≡ powers (remaining lsh256)) × (k ≡ shifts lsh256 j) × (j < lsh256 .steps) ⌝ }
+pub fn unmix(c: [u32; 8], pw: &[u64; 32], k: [u32; 4], j: usize, t: [u32; 16]) -> [u32; 16]
+    requires { ⌜ (c ≡ tabulate 8 (constant lsh256 j)) × (now pw ≡ powers (remaining lsh256)) × (k ≡ shifts lsh256 j) ⌝ }
     ensures { λ r. ⌜ r ≡ unmix lsh256 j t ⌝ }
 {
-    let p = unmix_pair(sc, pw, k, j, 0, four(&t, 0), four(&t, 8));
-    let q = unmix_pair(sc, pw, k, j, 1, four(&t, 4), four(&t, 12));
+    let p = unmix_pair(four(&c, 0), pw, k, j, 0, four(&t, 0), four(&t, 8));
+    let q = unmix_pair(four(&c, 4), pw, k, j, 1, four(&t, 4), four(&t, 12));
     let x0 = p.x;
     let x1 = q.x;
     let y0 = p.y;

@@ -1,8 +1,7 @@
 -- `groups256::all_steps` meets its contract. Assumes nothing.
-use Prim.Native.Nat.{_-_, _+_, _≤_}
+use Prim.Native.Nat.{_-_, _≤_}
 use native.Mathlib.Omega.{arith}
 use borrow.Author.Needs.{needs}
-use lib.ListN.{length}
 use Rattle.lsh.specs.WordSize.{lsh256}
 use Rattle.loops.specs.Rows.{expandedWords}
 use Rattle.loops.specs.Turns.{SteppedAhead}

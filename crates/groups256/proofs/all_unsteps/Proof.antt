@@ -30,17 +30,21 @@ all-unsteps-spec =
     (λ c κs. search needs)
     (λ c. (λ t h. h, c .shifts .ensures, omega arith))
     (λ c. omega arith)
+    (λ c κs. (c .before .before .before .before .pre .0, omega arith))
     (λ c κs.
-    let back : c .before .loop .j - 1 + 1 + 1 ≡ c .before .loop .j + 1 = omega arith in
-    (c .before .before .before .before .pre .0, c .before .before .before .before .pre .1, c .before .loop .inv .1 ∙ ap (shifts lsh256) (sym back) ∙ shifts-two lsh256 (c .before .loop .j - 1), omega arith, omega (arith, c .before .before .before .before .pre .2)))
+    let v = c .before .before in
+    let z = v .before .before .before in
+    let back : v .loop .j - 1 + 1 + 1 ≡ v .loop .j + 1 = omega arith in
+    (c .constants .ensures, z .pre .1, v .loop .inv .1 ∙ ap (shifts lsh256) (sym back) ∙ shifts-two lsh256 (v .loop .j - 1), omega (arith, z .pre .2)))
     (λ c κs. search needs)
     (λ c. omega arith)
     (λ c.
-    let j : ℕ = c .before .before .before .loop .j - 1 in
-    let next : j + 1 ≡ c .before .before .before .loop .j = omega arith in
-    let back : j + 1 + 1 ≡ c .before .before .before .loop .j + 1 = omega arith in (
-      λ t h. unstepped-one (unstepped-is (c .before .before .before .loop .inv .0 t h) (sym next)) (omega arith) refl (c .before .unstep .ensures),
-      c .next-shifts .ensures j (c .before .before .before .loop .inv .1 ∙ ap (shifts lsh256) (sym back) ∙ shifts-two lsh256 j),
+    let v = c .before .before .before .before in
+    let j : ℕ = v .loop .j - 1 in
+    let next : j + 1 ≡ v .loop .j = omega arith in
+    let back : j + 1 + 1 ≡ v .loop .j + 1 = omega arith in (
+      λ t h. unstepped-one (unstepped-is (v .loop .inv .0 t h) (sym next)) (omega arith) refl (c .before .unstep .ensures),
+      c .next-shifts .ensures j (v .loop .inv .1 ∙ ap (shifts lsh256) (sym back) ∙ shifts-two lsh256 j),
       omega arith,
     ))
     (λ c. λ u h. unstepped-is (c .before .loop .inv .0 u h) (omega arith)))

@@ -44,8 +44,7 @@ odd-steps-spec =
     let e = c .before .before .before .before .before in
     let t = e .before .before .before in
     let v = t .before .before in
-    let odd : v .loop .count % 2 ≡ 1 = eqb-true (v .loop .count % 2) 1 (t .if1 .taken) in
-    (
+    let odd : v .loop .count % 2 ≡ 1 = eqb-true (v .loop .count % 2) 1 (t .if1 .taken) in (
       λ n u h. ahead-more _ _ (v .loop .inv .0 n u h) (omega (arith, h .len)) (e .expand-row .ensures) (c .step .ensures),
       ap length (e .expand-row .ensures) ∙ (simp length-sets) ∙ v .loop .inv .1,
       omega arith,

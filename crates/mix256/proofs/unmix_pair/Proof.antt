@@ -1,14 +1,10 @@
 -- `mix256::unmix_pair` meets its contract. Assumes nothing.
-use mathlib.Core.Path.{_≡_}
 use Prim.Native.Nat.{_%_}
-use native.Mathlib.Omega.{arith}
 use borrow.Author.Needs.{needs, elem-fits}
 use mir.Syntax.{w32}
-use lib.ListN.{length}
 use Rattle.lsh.specs.WordSize.{lsh256}
 use Rattle.lsh.proofs.Figures.{amounts256}
 use Rattle.groups.specs.GroupStep.{unmixPair}
-use Rattle.loops.proofs.Groups.{four-constants}
 use Rattle.mix256.specs.Amounts.{remaining}
 use Rattle.mix256.proofs.Amounts.{Shifts, shifts-are, turn-back, remaining-less, remaining-is}
 use Rattle.mix256.proofs.unmix_pair.Statement.{statement}
@@ -24,23 +20,19 @@ unfolding lsh256 unmixPair
 unmix-pair-spec =
     tie.close
     (tie.spec
-    (λ c. omega arith)
-    (λ c. omega arith)
-    (λ c. omega arith)
-    (λ c κs. let size : length (c .before .args .sc .now) ≡ 208 = search needs in omega arith)
     (λ c κs. search needs)
     (λ c κs. search needs)
     (λ c. search needs)
     (λ c. search needs)
-    (λ c κs. turn-back (k (c .before .before .before .before) .β-turn))
+    (λ c κs. turn-back (k (c .before .before) .β-turn))
     (λ c κs. search needs)
     (λ c κs. search needs)
     (λ c. search needs)
     (λ c. search needs)
-    (λ c κs. turn-back (k (c .before .before .before .before .before .before .before) .α-turn))
+    (λ c κs. turn-back (k (c .before .before .before .before .before) .α-turn))
     (λ c κs. search needs)
     (λ c.
-    let z = c .before .before .before .before .before .before .before .before .before in
+    let z = c .before .before .before .before .before .before .before in
     rw (
       c .subtract3 .ensures,
       c .before .turn-each2 .ensures .1,
@@ -50,8 +42,7 @@ unmix-pair-spec =
       c .before .before .before .before .before .subtract .ensures,
       c .before .before .before .before .before .before .turn-by-powers .ensures (remaining lsh256) remaining-less (z .pre .1),
       remaining-is lsh256 amounts256 (z .args .j % 4) (z .args .l) (z .args .y) (λ i. elem-fits w32 w32 (z .args .y) _ i (z .good .1 .1 .1 .1 .1 .1 .0 .1 .1) tt .fits),
-      c .before .before .before .before .before .before .before .four .ensures,
-      four-constants lsh256 (z .args .sc .now) (z .pre .0) (z .args .j) (z .args .l) (z .pre .3) (z .pre .4),
+      z .pre .0,
       k z .α,
       k z .β,
     )))
