@@ -67,15 +67,17 @@ pub fn next_sub_message(p: [u32; 16], q: [u32; 16]) -> [u32; 16]
     r
 }
 
-// M_2 to M_steps, from M_0 and M_1. The row before is at hand, and the one before that is read again: so the compiler works on four words at once.
+// M_2 to M_steps, from M_0 and M_1. The two rows before are at hand: a row read again would have to wait until it is stored.
 pub fn expand(m: &mut [u32], steps: usize)
     requires { ⌜ (length (now m) ≡ expandedWords lsh256) × (1 ≤ steps) × (steps ≤ lsh256 .steps) ⌝ }
     ensures { λ _. ⌜ Expanded lsh256 (take 32 (now (m .entry))) (now (m .exit)) steps ⌝ }
 {
+    let mut q = sub_message(m, 0);
     let mut p = sub_message(m, 1);
     for j in 0..steps - 1 {
-        let r = next_sub_message(p, sub_message(m, j));
+        let r = next_sub_message(p, q);
         put_sub_message(m, j + 2, r);
+        q = p;
         p = r;
     }
 }

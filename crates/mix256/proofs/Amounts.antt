@@ -3,9 +3,7 @@
 use mathlib.Core.Path.{_≡_, refl, sym, ap, ap₂, _∙_, subst⁻¹}
 use mathlib.Core.List.{List, [], _∷_}
 use Prim.Native.Nat.{ℕ, zero, suc, _+_, _-_, _*_, _/_, _%_, _^_, _<_}
-use native.Mathlib.Nat.{one-mul, mod-eq-of-lt}
 use native.Mathlib.Omega.{arith}
-use lib.Pow.{pow-lt}
 use Rattle.lsh.specs.Tabulate.{at}
 use Rattle.lsh.specs.Word.{add, subtract, rotateLeft, rotateRight}
 use Rattle.lsh.specs.WordSize.{WordSize, lsh256, alpha, beta, gamma}
@@ -79,10 +77,6 @@ shifts-are j {k} e =
       α-turn = rw e (t .0);
       β-turn = rw e (t .1);
     }
-
--- 1 shifted by k is 2 to the k
-pub shifted-one : (k : ℕ) → k < 32 → (1 * 2 ^ k) % 2 ^ 64 ≡ 2 ^ k
-shifted-one k h = ap (λ (n : ℕ). n % 2 ^ 64) (one-mul (2 ^ k)) ∙ mod-eq-of-lt (pow-lt {i = k} {j = 64} (omega arith))
 
 -- the power of lane l in step i
 pub at-powers : (f : ℕ → ℕ → ℕ) (pw : List ℕ) → pw ≡ powers f → (q i l : ℕ) → q < 32 → q / 8 ≡ i → q % 8 ≡ l → at pw q ≡ 2 ^ f i l

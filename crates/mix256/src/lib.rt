@@ -4,7 +4,7 @@
 ghost use mathlib.Core.Path.{_≡_};
 ghost use Prim.Native.Nat.{ℕ, _+_, _%_, _^_, _<_, _≤_};
 ghost use lib.ListN.{length};
-ghost use Rattle.lsh.specs.Tabulate.{at, tabulate};
+ghost use Rattle.lsh.specs.Tabulate.{tabulate};
 ghost use Rattle.lsh.specs.Word.{add, subtract, rotateLeft, rotateRight, xor};
 ghost use Rattle.lsh.specs.WordSize.{lsh256};
 ghost use Rattle.lsh.specs.StepConstants.{constant, constants};
@@ -26,35 +26,90 @@ const EVEN: [u32; 4] = [29, 3, 1, 31];
 
 const ODD: [u32; 4] = [5, 27, 17, 15];
 
-// The amounts of gamma, group after group, and what is left of the width: by so much to the left is by gamma to the right.
-const GAMMA: [u32; 8] = [0, 8, 16, 24, 24, 16, 8, 0];
+// 2 to the sums of beta of a step and gamma of a lane, group after group; and 2 to what is left of the width beside gamma, since by so much to the left is by gamma to the
+// right. The amounts come again after two steps, and there are rows for four: so a power is not known where the step is only known to be even or odd, and the compiler
+// looks it up and makes no rotation of the product.
+const POWERS: [u64; 32] = [
+    0x2,
+    0x200,
+    0x20000,
+    0x2000000,
+    0x2000000,
+    0x20000,
+    0x200,
+    0x2,
+    0x20000,
+    0x2000000,
+    0x2,
+    0x200,
+    0x200,
+    0x2,
+    0x2000000,
+    0x20000,
+    0x2,
+    0x200,
+    0x20000,
+    0x2000000,
+    0x2000000,
+    0x20000,
+    0x200,
+    0x2,
+    0x20000,
+    0x2000000,
+    0x2,
+    0x200,
+    0x200,
+    0x2,
+    0x2000000,
+    0x20000,
+];
 
-const REMAINING: [u32; 8] = [0, 24, 16, 8, 8, 16, 24, 0];
+const BACK_POWERS: [u64; 32] = [
+    0x1,
+    0x1000000,
+    0x10000,
+    0x100,
+    0x100,
+    0x10000,
+    0x1000000,
+    0x1,
+    0x1,
+    0x1000000,
+    0x10000,
+    0x100,
+    0x100,
+    0x10000,
+    0x1000000,
+    0x1,
+    0x1,
+    0x1000000,
+    0x10000,
+    0x100,
+    0x100,
+    0x10000,
+    0x1000000,
+    0x1,
+    0x1,
+    0x1000000,
+    0x10000,
+    0x100,
+    0x100,
+    0x10000,
+    0x1000000,
+    0x1,
+];
 
-// 2 to the sums of an amount of the step, which comes again after two steps, and one of the lane. There are rows for four steps: so a power is not known where the step is
-// only known to be even or odd, and the compiler looks it up and makes no rotation of the product.
-fn powers_of(b: [u32; 2], g: [u32; 8]) -> [u64; 32]
-    requires { ⌜ ((i : ℕ) → at b i < 32) × ((l : ℕ) → at g l < 32) ⌝ }
-    ensures { λ r. ⌜ r ≡ powers (λ j l. (at b (j % 2) + at g l) % 32) ⌝ }
-{
-    let mut r = [0u64; 32];
-    for k in 0..32 {
-        r[k] = 1u64 << (b[k / 8 % 2] + g[k % 8]) % 32;
-    }
-    r
-}
-
-// The powers for a run forward, and for one backward. A run of blocks works them out once, and lends them on.
+// The powers for a run forward, and for one backward. A run of blocks has them once, and lends them on.
 pub fn powers() -> [u64; 32]
     ensures { λ r. ⌜ r ≡ powers (betaGamma lsh256) ⌝ }
 {
-    powers_of([EVEN[2], ODD[2]], GAMMA)
+    POWERS
 }
 
 pub fn back_powers() -> [u64; 32]
     ensures { λ r. ⌜ r ≡ powers (remaining lsh256) ⌝ }
 {
-    powers_of([0, 0], REMAINING)
+    BACK_POWERS
 }
 
 // The shifts of step j.
