@@ -33,18 +33,23 @@ fn step(c: [u32; 8], pw: &[u64; 32], k: [u32; 4], j: usize, m: &[u32], t: [u32; 
     ))
 }
 
-fn unstep(c: [u32; 8], pw: &[u64; 32], k: [u32; 4], j: usize, m: &[u32], t: [u32; 16]) -> [u32; 16]
-    requires { ⌜ (c ≡ tabulate 8 (constant lsh256 j)) × (now pw ≡ powers (remaining lsh256)) × (k ≡ shifts lsh256 j) × (j * 16 + 16 ≤ length (now m)) ⌝ }
-    ensures { λ r. ⌜ r ≡ unstep lsh256 j (row (now (m .entry)) j) t ⌝ }
+// Step j taken back, with its sub-message q.
+pub fn unstep(
+    c: [u32; 8],
+    pw: &[u64; 32],
+    k: [u32; 4],
+    j: usize,
+    q: [u32; 16],
+    t: [u32; 16],
+) -> [u32; 16]
+    requires { ⌜ (c ≡ tabulate 8 (constant lsh256 j)) × (now pw ≡ powers (remaining lsh256)) × (k ≡ shifts lsh256 j) ⌝ }
+    ensures { λ r. ⌜ r ≡ unstep lsh256 j q t ⌝ }
 {
-    steps256::add_message(
-        mix256::unmix(c, pw, k, j, steps256::unpermute(t)),
-        lsh256::sub_message(m, j),
-    )
+    steps256::add_message(mix256::unmix(c, pw, k, j, steps256::unpermute(t)), q)
 }
 
 // M_(j + 2), from the two before it (8).
-fn expand_row(m: &mut [u32], j: usize)
+pub fn expand_row(m: &mut [u32], j: usize)
     requires { ⌜ (j + 3) * 16 ≤ length (now m) ⌝ }
     ensures { λ _. ⌜ now (m .exit) ≡ sets (now (m .entry)) ((j + 2) * 16) (nextSubMessage lsh256 (row (now (m .entry)) (j + 1)) (row (now (m .entry)) j)) ⌝ }
 {
@@ -161,7 +166,7 @@ fn all_unsteps(
     while 0 < j {
         j -= 1;
         let c = mix256::constants(sc, j);
-        let u = unstep(c, pw, k, j, m, r);
+        let u = unstep(c, pw, k, j, lsh256::sub_message(m, j), r);
         r = u;
         let n = mix256::next_shifts(k);
         k = n;

@@ -6,6 +6,7 @@ pub mod Lanes
 pub mod Groups
 pub mod Pairs
 pub mod Rows
+pub mod Halves
 pub mod Turns
 pub mod Ahead
 pub mod Runs

@@ -1,5 +1,5 @@
 -- `groups256::all_unsteps` meets its contract. Assumes nothing.
-use mathlib.Core.Path.{_≡_, refl, sym, ap, _∙_}
+use mathlib.Core.Path.{_≡_, sym, ap, _∙_}
 use mathlib.Core.List.{List}
 use Prim.Native.Nat.{ℕ, _+_, _-_, _≤_}
 use native.Mathlib.Omega.{arith}
@@ -31,19 +31,21 @@ all-unsteps-spec =
     (λ c. (λ t h. h, c .shifts .ensures, omega arith))
     (λ c. omega arith)
     (λ c κs. (c .before .before .before .before .pre .0, omega arith))
+    (λ c κs. omega (arith, c .before .before .before .before .before .pre .2))
     (λ c κs.
-    let v = c .before .before in
+    let k = c .before in
+    let v = k .before .before in
     let z = v .before .before .before in
     let back : v .loop .j - 1 + 1 + 1 ≡ v .loop .j + 1 = omega arith in
-    (c .constants .ensures, z .pre .1, v .loop .inv .1 ∙ ap (shifts lsh256) (sym back) ∙ shifts-two lsh256 (v .loop .j - 1), omega (arith, z .pre .2)))
+    (k .constants .ensures, z .pre .1, v .loop .inv .1 ∙ ap (shifts lsh256) (sym back) ∙ shifts-two lsh256 (v .loop .j - 1)))
     (λ c κs. search needs)
     (λ c. omega arith)
     (λ c.
-    let v = c .before .before .before .before in
+    let v = c .before .before .before .before .before in
     let j : ℕ = v .loop .j - 1 in
     let next : j + 1 ≡ v .loop .j = omega arith in
     let back : j + 1 + 1 ≡ v .loop .j + 1 = omega arith in (
-      λ t h. unstepped-one (unstepped-is (v .loop .inv .0 t h) (sym next)) (omega arith) refl (c .before .unstep .ensures),
+      λ t h. unstepped-one (unstepped-is (v .loop .inv .0 t h) (sym next)) (omega arith) (c .before .before .sub-message .ensures) (c .before .unstep .ensures),
       c .next-shifts .ensures j (v .loop .inv .1 ∙ ap (shifts lsh256) (sym back) ∙ shifts-two lsh256 j),
       omega arith,
     ))

@@ -12,5 +12,4 @@ unstep-spec =
     (λ c κs. search needs)
     (λ c κs. search needs)
     (λ c κs. search needs)
-    (λ c κs. search needs)
-    (λ c. rw (c .add-message .ensures, c .before .sub-message .ensures, c .before .before .unmix .ensures, c .before .before .before .unpermute .ensures)))
+    (λ c. rw (c .add-message .ensures, c .before .unmix .ensures, c .before .before .unpermute .ensures)))
