@@ -112,13 +112,21 @@ fn forward64(engine: Engine, t: [u64; 16], s: &[u8]) -> lsh512::Run
     }
 }
 
+// From so many bytes on the groups at w = 32 have a run backward of their own, which is faster over two blocks and more.
+const MANY: usize = 2 * Lsh256::BLOCK;
+
 // Backward, from the last block.
 fn backward32(engine: Engine, t: [u32; 16], s: &[u8]) -> lsh256::Run
     ensures { λ r. ⌜ (r .chain ≡ backwards lsh256 (blocksOf lsh256 (now (s .entry))) t) × (r .count ≡ length (now (s .entry)) / blockBytes lsh256) ⌝ }
 {
     match engine {
         Engine::Words => lsh256::backward(Lsh256::STEPS, t, s),
-        Engine::Groups => groups256::backward(Lsh256::STEPS, t, s),
+        Engine::Groups => {
+            if s.len() < MANY {
+                return groups256::backward(Lsh256::STEPS, t, s);
+            }
+            ahead256::backward(Lsh256::STEPS, t, s)
+        }
     }
 }
 
@@ -159,7 +167,12 @@ fn backward_steps32(engine: Engine, steps: usize, t: [u32; 16], s: &[u8]) -> lsh
 {
     match engine {
         Engine::Words => lsh256::backward(steps, t, s),
-        Engine::Groups => groups256::backward(steps, t, s),
+        Engine::Groups => {
+            if s.len() < MANY {
+                return groups256::backward(steps, t, s);
+            }
+            ahead256::backward(steps, t, s)
+        }
     }
 }
 

@@ -39,8 +39,7 @@ all-unsteps-spec =
     (λ c κs. search needs)
     (λ c.
     let z = c .before .before in
-    let none : z .args .steps - 0 ≡ z .args .steps = sub-zero (z .args .steps) in
-    (
+    let none : z .args .steps - 0 ≡ z .args .steps = sub-zero (z .args .steps) in (
       kept-none _ _ _,
       λ b e. ap (λ (j : ℕ). unsteps lsh256 b j (z .args .t)) none,
       λ b e. e,
@@ -72,13 +71,12 @@ all-unsteps-spec =
     let j : ℕ = z .args .steps - 1 - i in
     let now : z .args .steps - i ≡ j + 1 = omega arith in
     let then : z .args .steps - (i + 1) ≡ j = omega arith in
-    let back : z .args .steps - i + 1 ≡ j + 1 + 1 = omega arith in
-    (
+    let back : z .args .steps - i + 1 ≡ j + 1 + 1 = omega arith in (
       kept-more (nextSubMessage lsh256 (row (v .loop .m) (z .args .n + i + 1)) (row (v .loop .m) (z .args .n + i))) (z .args .n + i + 2) (v .loop .inv .0) (o .expand-row .ensures) (length-next lsh256 _ _) (omega arith) (omega arith),
       λ b e.
-      unstepped-from j (v .loop .r) (half-kept (z .pre .3) (z .pre .4) (omega arith) e (v .loop .inv .0)) (omega arith) then
-      (ap (λ (l : ℕ). unsteps lsh256 b l (v .loop .r)) (sym now) ∙ v .loop .inv .1 b e)
-      (u .unstep .ensures ∙ ap (λ (q : List ℕ). unstep lsh256 j q (v .loop .r)) (u .before .sub-message .ensures)),
+          unstepped-from j (v .loop .r) (half-kept (z .pre .3) (z .pre .4) (omega arith) e (v .loop .inv .0)) (omega arith) then
+          (ap (λ (l : ℕ). unsteps lsh256 b l (v .loop .r)) (sym now) ∙ v .loop .inv .1 b e)
+          (u .unstep .ensures ∙ ap (λ (q : List ℕ). unstep lsh256 j q (v .loop .r)) (u .before .sub-message .ensures)),
       λ b e. from-more i (v .loop .inv .2 b e) (omega (arith, v .loop .inv .0 .len)) (o .expand-row .ensures),
       o .before .before .next-shifts .ensures j (v .loop .inv .3 ∙ ap (shifts lsh256) back ∙ shifts-two lsh256 j) ∙ ap (λ (l : ℕ). shifts lsh256 (l + 1)) (sym then),
       omega arith,
@@ -86,8 +84,7 @@ all-unsteps-spec =
     (λ c. c .before .loop .inv .0 .len)
     (λ c.
     let v = c .before in
-    let none : v .before .before .before .args .steps - v .loop .i ≡ 0 = omega arith in
-    (
+    let none : v .before .before .before .args .steps - v .loop .i ≡ 0 = omega arith in (
       v .loop .inv .0,
       λ b e. unstepped-last lsh256 b _ none (v .loop .inv .1 b e),
       λ b e. from-upTo (v .loop .inv .2 b e) (omega arith),

@@ -56,8 +56,7 @@ backward-spec =
     let l = b .before .before .before .before .before in
     let i = l .before .before in
     let v = i .before in
-    let z = v .before .before .before .before .before .before .before .before .before .before .before in
-    (
+    let z = v .before .before .before .before .before .before .before .before .before .before .before in (
       run-backward-more _ (v .loop .inv .0) (i .loop-test .taken) (b .backward-block .ensures .0 _ (half-kept (v .loop .inv .2) refl (omega (arith, z .pre .1)) (v .loop .inv .1 (i .loop-test .taken)) (l .load-before2 .ensures .0))),
       λ some. b .backward-block .ensures .1 _ (l .load-before2 .ensures .1 some),
       other-half (v .loop .inv .2) refl,

@@ -23,10 +23,9 @@ backward-block-spec =
     (λ c.
     let a = c .before .before in
     let q = a .before .before in
-    let z = q .before .before .before .before in
-    (
+    let z = q .before .before .before .before in (
       λ b e.
-      a .all-unsteps .ensures .1 b e
-      ∙ ap (unsteps lsh256 b (z .args .steps)) (q .add-message .ensures ∙ ap (addMessage lsh256 (z .args .t)) (q .before .sub-message .ensures ∙ e .rows (z .args .steps) (le-refl _))),
+          a .all-unsteps .ensures .1 b e
+          ∙ ap (unsteps lsh256 b (z .args .steps)) (q .add-message .ensures ∙ ap (addMessage lsh256 (z .args .t)) (q .before .sub-message .ensures ∙ e .rows (z .args .steps) (le-refl _))),
       a .all-unsteps .ensures .2,
     )))

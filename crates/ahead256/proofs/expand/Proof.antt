@@ -32,8 +32,7 @@ expand-spec =
     (λ c. omega arith)
     (λ c.
     let o = c .before .before in
-    let v = o .before .before .before in
-    (
+    let v = o .before .before .before in (
       λ b e. from-more _ (v .loop .inv .0 b e) (omega (arith, v .loop .inv .1)) (o .expand-row .ensures),
       ap length (o .expand-row .ensures) ∙ (simp length-sets) ∙ v .loop .inv .1,
     ))
