@@ -9,7 +9,7 @@ use native.Mathlib.Decide.{ℕ-discrete}
 use native.Mathlib.Omega.{arith}
 use lib.ListN.{length}
 use lib.Seq.{sets, length-sets, take-all}
-use Rattle.lsh.specs.Tabulate.{at, tabulate}
+use Rattle.lsh.specs.Tabulate.{at}
 use Rattle.lsh.specs.WordSize.{WordSize}
 use Rattle.lsh.specs.Step.{unstep}
 use Rattle.lsh.specs.Expansion.{nextSubMessage, subMessage}
