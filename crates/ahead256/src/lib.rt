@@ -5,7 +5,7 @@ ghost use mathlib.Core.Path.{_≡_};
 ghost use mathlib.Core.List.{List};
 ghost use mathlib.Core.Logic.{_⊎_};
 ghost use Prim.Native.Nat.{ℕ, _+_, _-_, _*_, _/_, _<_, _≤_};
-ghost use lib.ListN.{length, take, drop};
+ghost use lib.ListN.{length};
 ghost use Rattle.lsh.specs.WordSize.{lsh256, blockBytes};
 ghost use Rattle.lsh.specs.StepConstants.{constants};
 ghost use Rattle.lsh.specs.Bytes.{wordsOf};
@@ -13,6 +13,7 @@ ghost use Rattle.lsh.specs.Block.{unsteps, backwardSteps, backwardsSteps};
 ghost use Rattle.lsh.specs.Padding.{blocksOf};
 ghost use Rattle.loops.specs.Rows.{expandedWords, row};
 ghost use Rattle.loops.specs.Halves.{ExpandedFrom, KeptBut, loaded};
+ghost use Rattle.loops.specs.Parts.{part};
 ghost use Rattle.mix256.specs.Amounts.{remaining, powers};
 use lsh256::Lsh256;
 use lsh256::Run;
@@ -48,7 +49,7 @@ fn load(m: &mut [u32], n: usize, s: &[u8])
 // The same of block i - 1 of s, if there is such a block.
 fn load_before(m: &mut [u32], n: usize, s: &[u8], i: usize)
     requires { ⌜ (n * 16 + 32 ≤ length (now m)) × (i * blockBytes lsh256 ≤ length (now s)) ⌝ }
-    ensures { λ _. ⌜ KeptBut (now (m .entry)) (now (m .exit)) n (lsh256 .steps + 2) × (0 < i → ExpandedFrom lsh256 (wordsOf lsh256 32 (take ((i - 1) * blockBytes lsh256 + blockBytes lsh256 - (i - 1) * blockBytes lsh256) (drop ((i - 1) * blockBytes lsh256) (now (s .entry))))) (now (m .exit)) n 1) ⌝ }
+    ensures { λ _. ⌜ KeptBut (now (m .entry)) (now (m .exit)) n (lsh256 .steps + 2) × (0 < i → ExpandedFrom lsh256 (wordsOf lsh256 32 (part lsh256 (now (s .entry)) (i - 1))) (now (m .exit)) n 1) ⌝ }
 {
     if 0 < i {
         let a = (i - 1) * Lsh256::BLOCK;

@@ -12,12 +12,9 @@ use Rattle.lsh.specs.WordSize.{WordSize, blockBytes}
 use Rattle.lsh.specs.Bytes.{wordsOf}
 use Rattle.lsh.specs.Block.{forwardSteps, backwardSteps, forwardsSteps, backwardsSteps}
 use Rattle.lsh.specs.Padding.{firstBlocks, blocksOf}
+use Rattle.loops.specs.Parts.{part}
 use Rattle.lsh.proofs.Blocks.{forwardsSteps-append, backwardsSteps-append}
 use Rattle.lsh.proofs.Padding.{blockAt, firstBlocks-more}
-
--- the part of s that the code lends for block k, from place k * B to k * B + B
-abbrev pub part : WordSize → List ℕ → ℕ → List ℕ
-part z s k = take (k * blockBytes z + blockBytes z - k * blockBytes z) (drop (k * blockBytes z) s)
 
 pub length-part : (z : WordSize) (s : List ℕ) (k : ℕ) → k * blockBytes z + blockBytes z ≤ length s → length (part z s k) ≡ blockBytes z
 length-part z s k room =

@@ -112,7 +112,8 @@ fn forward64(engine: Engine, t: [u64; 16], s: &[u8]) -> lsh512::Run
     }
 }
 
-// From so many bytes on the groups at w = 32 have a run backward of their own, which is faster over two blocks and more.
+// From so many bytes on the groups at w = 32 have a run backward of their own, which is faster over two blocks and more. (A block call has one block, and still chooses: an
+// engine with a single caller would be written into it.)
 const MANY: usize = 2 * Lsh256::BLOCK;
 
 // Backward, from the last block.

@@ -9,7 +9,8 @@ use Rattle.lsh.specs.WordSize.{lsh256, blockBytes}
 use Rattle.lsh.specs.Bytes.{wordsOf}
 use Rattle.loops.specs.Rows.{expandedWords}
 use Rattle.loops.specs.Halves.{ExpandedFrom}
-use Rattle.loops.proofs.Runs.{part, RunBackward, run-backward-none, run-backward-more, run-backward-all}
+use Rattle.loops.specs.Parts.{part}
+use Rattle.loops.proofs.Runs.{RunBackward, run-backward-none, run-backward-more, run-backward-all}
 use Rattle.loops.proofs.Halves.{half-kept, other-half}
 use Rattle.ahead256.proofs.backward.Statement.{statement}
 use Rattle.ahead256.proofs.backward.Tie as tie
