@@ -9,40 +9,18 @@ use native.Mathlib.Decide.{ℕ-discrete}
 use native.Mathlib.Omega.{arith}
 use lib.ListN.{length}
 use lib.Seq.{sets, length-sets, take-all}
-use Rattle.lsh.specs.Tabulate.{at}
 use Rattle.lsh.specs.WordSize.{WordSize}
 use Rattle.lsh.specs.Step.{unstep}
 use Rattle.lsh.specs.Expansion.{nextSubMessage, subMessage}
 use Rattle.lsh.specs.Block.{unsteps}
-use Rattle.lsh.proofs.Tabulate.{length-tabulate, tabulate-ext, tabulate-cong}
+use Rattle.lsh.proofs.Tabulate.{length-tabulate}
 use Rattle.loops.specs.Rows.{row}
 use Rattle.loops.specs.Halves.{ExpandedFrom, KeptBut, loaded}
-use Rattle.loops.proofs.Rows.{sub-next, rows-none}
-use Rattle.loops.proofs.Places.{at-sets-before, at-sets-after, at-sets-in}
+use Rattle.loops.proofs.Rows.{sub-next, rows-none, row-put, row-below, row-above}
 
 length-row : (b : List ℕ) (i : ℕ) → length (row b i) ≡ 16
 unfolding row
 length-row b i = length-tabulate 16 _
-
--- a row that is put, and the others
-module _ (m r : List ℕ) (p : ℕ) {o : List ℕ} (is : o ≡ sets m (p * 16) r) (sixteen : length r ≡ 16) where
-  pub row-put : p * 16 + 16 ≤ length m → row o p ≡ r
-  unfolding row
-  row-put room =
-      tabulate-ext 16 _ r sixteen
-      (λ l hl. ap (λ (s : List ℕ). at s (p * 16 + l)) is ∙ at-sets-in m (p * 16) r l (rw sixteen room) (rw sixteen hl))
-
-  row-below : (q : ℕ) → q < p → row o q ≡ row m q
-  unfolding row
-  row-below q lt =
-      tabulate-cong 16 _ _
-      (λ l hl. ap (λ (s : List ℕ). at s (q * 16 + l)) is ∙ at-sets-before m (p * 16) r (q * 16 + l) (omega arith))
-
-  row-above : (q : ℕ) → p < q → row o q ≡ row m q
-  unfolding row
-  row-above q lt =
-      tabulate-cong 16 _ _
-      (λ l hl. ap (λ (s : List ℕ). at s (q * 16 + l)) is ∙ at-sets-after m (p * 16) r (q * 16 + l) (rw sixteen (omega arith)))
 
 -- what is kept
 pub kept-none : (m : List ℕ) (n h : ℕ) → KeptBut m m n h
@@ -55,14 +33,6 @@ kept-more {m₀} {m} {n} {h} r p {o} k is sixteen from to =
       len = ap length is ∙ length-sets m (p * 16) r ∙ k .len;
       below = λ q lt. row-below m r p is sixteen q (omega arith) ∙ k .below q lt;
       above = λ q le. row-above m r p is sixteen q (omega arith) ∙ k .above q le;
-    }
-
-pub kept-then : {m₀ m o : List ℕ} {n h : ℕ} → KeptBut m₀ m n h → KeptBut m o n h → KeptBut m₀ o n h
-kept-then a b =
-    record {
-      len = b .len ∙ a .len;
-      below = λ q lt. b .below q lt ∙ a .below q lt;
-      above = λ q le. b .above q le ∙ a .above q le;
     }
 
 -- the block of one half is kept while the other half is written

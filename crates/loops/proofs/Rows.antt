@@ -13,7 +13,7 @@ use Rattle.lsh.specs.WordSize.{WordSize}
 use Rattle.lsh.specs.Expansion.{nextSubMessage, subMessages, subMessage}
 use Rattle.lsh.proofs.Tabulate.{length-tabulate, tabulate-ext, tabulate-cong}
 use Rattle.loops.specs.Rows.{expandedWords, row, Expanded}
-use Rattle.loops.proofs.Places.{at-sets-before, at-sets-in}
+use Rattle.loops.proofs.Places.{at-sets-before, at-sets-after, at-sets-in}
 
 -- a sub-message from the two before it (8)
 pub sub-next : (z : WordSize) (b : List ℕ) {p q r : List ℕ} (j : ℕ) → r ≡ nextSubMessage z p q → p ≡ subMessage z b (j + 1) → q ≡ subMessage z b j
@@ -47,6 +47,26 @@ pub expanded-none : (z : WordSize) (m : List ℕ) → length m ≡ expandedWords
 unfolding expandedWords
 expanded-none z m len pos = record { len = len; rows = rows-none z m (omega arith) }
 
+-- a row that is put, and the others
+module _ (m r : List ℕ) (p : ℕ) {o : List ℕ} (is : o ≡ sets m (p * 16) r) (sixteen : length r ≡ 16) where
+  pub row-put : p * 16 + 16 ≤ length m → row o p ≡ r
+  unfolding row
+  row-put room =
+      tabulate-ext 16 _ r sixteen
+      (λ l hl. ap (λ (s : List ℕ). at s (p * 16 + l)) is ∙ at-sets-in m (p * 16) r l (rw sixteen room) (rw sixteen hl))
+
+  pub row-below : (q : ℕ) → q < p → row o q ≡ row m q
+  unfolding row
+  row-below q lt =
+      tabulate-cong 16 _ _
+      (λ l hl. ap (λ (s : List ℕ). at s (q * 16 + l)) is ∙ at-sets-before m (p * 16) r (q * 16 + l) (omega arith))
+
+  pub row-above : (q : ℕ) → p < q → row o q ≡ row m q
+  unfolding row
+  row-above q lt =
+      tabulate-cong 16 _ _
+      (λ l hl. ap (λ (s : List ℕ). at s (q * 16 + l)) is ∙ at-sets-after m (p * 16) r (q * 16 + l) (rw sixteen (omega arith)))
+
 -- the length of a sub-message that is worked out
 length-sub : (z : WordSize) (b : List ℕ) (j : ℕ) → length (subMessage z b (j + 1 + 1)) ≡ 16
 unfolding subMessage subMessages nextSubMessage
@@ -57,23 +77,16 @@ length-sub z b j =
 -- the next row is put behind those that are there, where there is room
 pub rows-more : (z : WordSize) (b m : List ℕ) (j : ℕ) (o r : List ℕ) → ((i : ℕ) → i ≤ j + 1 → row m i ≡ subMessage z b i) → (j + 3) * 16 ≤ length m
     → r ≡ subMessage z b (j + 1 + 1) → o ≡ sets m ((j + 2) * 16) r → (i : ℕ) → i ≤ j + 1 + 1 → row o i ≡ subMessage z b i
-unfolding row
 rows-more z b m j o r rows room er eo i hi = go (ℕ-discrete i (j + 1 + 1))
   where
     sixteen : length r ≡ 16
     sixteen = ap length er ∙ length-sub z b j
 
-    go : Dec (i ≡ j + 1 + 1) → tabulate 16 (λ l. at o (i * 16 + l)) ≡ subMessage z b i
+    go : Dec (i ≡ j + 1 + 1) → row o i ≡ subMessage z b i
     go (yes last) =
-        tabulate-ext 16 _ r sixteen
-        (λ l hl.
-        let place : i * 16 + l ≡ (j + 2) * 16 + l = omega arith in
-        ap₂ at eo place ∙ at-sets-in m ((j + 2) * 16) r l (rw sixteen (omega arith)) (rw sixteen hl))
-        ∙ er ∙ ap (subMessage z b) (sym last)
-    go (no before) =
-        tabulate-cong 16 _ _
-        (λ l hl. ap (λ (s : List ℕ). at s (i * 16 + l)) eo ∙ at-sets-before m ((j + 2) * 16) r (i * 16 + l) (omega arith))
-        ∙ rows i (omega arith)
+        let place : i ≡ j + 2 = omega arith in
+        ap (row o) place ∙ row-put m r (j + 2) eo sixteen (omega arith) ∙ er ∙ ap (subMessage z b) (sym last)
+    go (no before) = row-below m r (j + 2) eo sixteen i (omega arith) ∙ rows i (omega arith)
 
 pub expanded-more : {z : WordSize} {b m : List ℕ} (j : ℕ) (o r : List ℕ) → Expanded z b m (j + 1) → j + 2 ≤ z .steps
     → r ≡ subMessage z b (j + 1 + 1) → o ≡ sets m ((j + 2) * 16) r → Expanded z b o (j + 1 + 1)
