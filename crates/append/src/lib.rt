@@ -1,4 +1,6 @@
 // Append: a piece is added to an order, and the whole blocks that it fills are run.
+#![tactic(auto)]
+
 ghost use Rattle.std.specs.Prelude.{◌≡◌, true, ◌+◌, ◌/◌, ◌<◌, ◌≤◌, length};
 ghost use Rattle.lsh.specs.WordSize.{is_word_size, size_of, block_bytes};
 ghost use Rattle.lsh.specs.Block.{Chain, forwards};
@@ -12,7 +14,7 @@ use orders::{Outcome, Record};
 use runs::Engine;
 
 // A chain after whole blocks, how many there were, and the held bytes after them.
-#[derive(Drop)]
+#[derive(Clone, Copy)]
 struct Absorbed {
     chain: [u64; 16],
     count: u64,

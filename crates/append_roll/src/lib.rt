@@ -1,4 +1,6 @@
 // Append with a roll: a piece is added to an order in parts that end at every 64th block, and a checkpoint is inserted at each.
+#![tactic(auto)]
+
 ghost use Rattle.std.specs.Prelude.{◌≡◌, true, List, [], ℕ, ◌+◌, ◌*◌, ◌/◌, ◌<◌, ◌≤◌, length};
 ghost use Rattle.lsh.specs.WordSize.{is_word_size, size_of, block_bytes};
 ghost use Rattle.lsh.specs.Block.{Chain, forwards};
@@ -20,7 +22,7 @@ use roll::{SPACING, Traversal};
 use runs::Engine;
 
 // An order at a checkpoint within a piece: the chain there, how many blocks were run, and what is known of the roll.
-#[derive(Drop)]
+#[derive(Clone, Copy)]
 struct Progress {
     chain: [u64; 16],
     count: u64,

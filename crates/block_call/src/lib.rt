@@ -1,4 +1,6 @@
 // Block forward and Block backward: one block on the bytes of a chain, for either word size.
+#![tactic(auto)]
+
 ghost use Rattle.std.specs.Prelude.{◌≡◌, not, ◌&&◌, cond, length};
 ghost use Rattle.blocks.specs.BlockCall.{block_answer, forward_bytes, backward_bytes};
 

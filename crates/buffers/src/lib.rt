@@ -1,5 +1,7 @@
 // Byte strings in lent buffers: copied, filled, compared and tested; and whether two chains are the same. What differs ends no loop early: of a tag every
 // byte is compared, whatever was found before it, and the compiler compares many at once.
+#![tactic(auto)]
+
 ghost use Rattle.std.specs.Prelude.{◌≡◌, ◌+◌, ◌≤◌, length, drop, replicate};
 ghost use Rattle.std.proofs.lemmas.List.Edits.{sets};
 ghost use Rattle.lists.specs.Equal.{equal};

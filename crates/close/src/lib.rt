@@ -1,4 +1,6 @@
 // Close: the receipt of the bytes of a record.
+#![tactic(auto)]
+
 ghost use Rattle.std.specs.Prelude.{◌≡◌, true, ◌+◌, ◌-◌, ◌/◌, ◌%◌, ◌^◌, ◌≤◌, length, take};
 ghost use Rattle.lsh.specs.WordSize.{size_of};
 ghost use Rattle.lsh.specs.Block.{Chain};

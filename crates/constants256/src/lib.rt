@@ -1,4 +1,6 @@
 // The step constants of LSH-256. The first row is stored, and the others are worked out by their rule (14).
+#![tactic(auto)]
+
 ghost use Rattle.std.specs.Prelude.{◌≡◌, ◌+◌, ◌≤◌, length};
 ghost use Rattle.std.proofs.lemmas.List.Edits.{sets};
 ghost use Rattle.lsh.specs.WordSize.{lsh256};
@@ -6,7 +8,7 @@ ghost use Rattle.lsh.specs.StepConstants.{constants};
 ghost use Rattle.loops.specs.Constants.{next_constant, next_row};
 
 // The figures of the word size.
-#[derive(Drop)]
+#[derive(Clone, Copy)]
 pub struct Lsh256 {}
 
 impl Lsh256 {

@@ -1,4 +1,6 @@
 // The end of a message: its last block, the digest of the chain reached, and the receipt.
+#![tactic(auto)]
+
 ghost use Rattle.std.specs.Prelude.{◌≡◌, true, ◌∷◌, ◌++◌, ◌+◌, ◌-◌, ◌/◌, ◌%◌, ◌^◌, ◌<◌, ◌≤◌, length, take, drop, replicate};
 ghost use Rattle.lsh.specs.Tabulate.{at, tabulate};
 ghost use Rattle.lsh.specs.Word.{xor};

@@ -1,5 +1,7 @@
 // LSH-256 in groups of four words: whole blocks of 128 bytes run forward and backward on a chain of 16 words of 32 bits, with the contracts of lsh256. The mix is that of
 // mix256; all else works on a chain as it is in memory, four words at a time too, and is that of the first engine. Group l of a chain stands at places 4l to 4l + 3.
+#![tactic(auto)]
+
 ghost use Rattle.std.specs.Prelude.{◌≡◌, List, ℕ, ◌+◌, ◌-◌, ◌*◌, ◌/◌, ◌%◌, ◌<◌, ◌≤◌, min, length, take};
 ghost use Rattle.std.proofs.lemmas.List.Edits.{sets};
 ghost use Rattle.lsh.specs.Tabulate.{tabulate};
@@ -63,7 +65,7 @@ fn long_room() -> [u32; Lsh256::EXPANDED + 16] {
 }
 
 // A chain, and how many steps led to it.
-#[derive(Drop)]
+#[derive(Clone, Copy)]
 struct Stepped {
     chain: [u32; 16],
     count: usize,

@@ -1,5 +1,7 @@
 // LSH-512 in groups of four words, the second engine: whole blocks run forward and backward, with the contracts of lsh512. Only the mix differs, and the rest is taken from
 // the first engine.
+#![tactic(auto)]
+
 ghost use Rattle.std.specs.Prelude.{◌≡◌, ◌+◌, ◌*◌, ◌/◌, ◌<◌, ◌≤◌, length};
 ghost use Rattle.lsh.specs.WordSize.{lsh512, block_bytes};
 ghost use Rattle.lsh.specs.StepConstants.{constants};

@@ -1,11 +1,13 @@
 // Bytes as two lower-case hexadecimal digits each, read from a word.
+#![tactic(auto)]
+
 ghost use Rattle.std.specs.Prelude.{◌≡◌, true, ◌*◌, ◌/◌, ◌<◌, ◌≤◌, length};
 ghost use Rattle.std.proofs.lemmas.List.Edits.{sets};
 ghost use Rattle.lsh.specs.Tabulate.{tabulate};
 ghost use Rattle.hexadecimal.specs.Hex.{is_digit, is_hex_digit, all_hex, hex_value, byte_of, is_dash, is_hex_bytes, no_length, word_length, written};
 
 // How many bytes a word says, if it is BYTES.
-#[derive(Drop)]
+#[derive(Clone, Copy)]
 pub struct Length {
     pub is: bool,
     pub count: usize,

@@ -1,5 +1,7 @@
 // HMAC over LSH: the block of a key, and the tag of a text or of an inner digest. A tag and the digests on the way have n / 8 bytes, which stand at the
 // front of an array.
+#![tactic(auto)]
+
 ghost use Rattle.std.specs.Prelude.{◌≡◌, true, ◌∷◌, ◌++◌, ◌-◌, ◌/◌, ◌%◌, length, take, replicate};
 ghost use Rattle.lsh.specs.WordSize.{is_word_size, size_of, block_bytes};
 ghost use Rattle.lsh.specs.Block.{Chain, forwards};

@@ -1,4 +1,5 @@
 // What an order may have. There are no functions here: specs/ has the same figures, and proofs/ their laws.
+#![tactic(auto)]
 
 // The most bytes of an order.
 pub const LIMIT: usize = 1 << 40;

@@ -1,4 +1,6 @@
 // LSH-512: whole blocks of 256 bytes run forward and backward on a chain of 16 words of 64 bits.
+#![tactic(auto)]
+
 ghost use Rattle.std.specs.Prelude.{◌≡◌, ◌+◌, ◌*◌, ◌/◌, ◌<◌, ◌≤◌, length, take};
 ghost use Rattle.std.proofs.lemmas.List.Edits.{sets};
 ghost use Rattle.lsh.specs.WordSize.{lsh512, chain_bytes, block_bytes};
@@ -14,7 +16,7 @@ ghost use Rattle.loops.specs.Turns.{RunTo, RunBack};
 pub use constants512::Lsh512;
 
 // A chain after whole blocks, and how many there were.
-#[derive(Drop)]
+#[derive(Clone, Copy)]
 pub struct Run {
     pub chain: [u64; 16],
     pub count: usize,

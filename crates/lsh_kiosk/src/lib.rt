@@ -1,5 +1,7 @@
 // The calls for C. Each is declared, with its answers, in include/lsh_kiosk.h, and is one line over the call that it carries the
 // equation of. Records and answers pass by value, and the engine as a number, which only runs::engine_of reads.
+#![tactic(auto)]
+
 ghost use Rattle.std.specs.Prelude.{◌≡◌, length};
 ghost use Rattle.blocks.specs.BlockCall.{block_answer, forward_bytes, backward_bytes};
 ghost use Rattle.orders.specs.Open.{open_call};

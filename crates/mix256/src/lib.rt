@@ -1,6 +1,8 @@
 // The mix of LSH-256 in groups of four words (22), forward and backward. A group in this shape makes the compiler use the processor's four-word instructions: a rotation
 // that it recognises it would do word by word. So a rotation is here two shifts, which forward are added or xored to another word one after the other, and whose amounts
 // backward are variables; or the two halves of a product with a power of two.
+#![tactic(auto)]
+
 ghost use Rattle.std.specs.Prelude.{◌≡◌, ℕ, ◌+◌, ◌%◌, ◌^◌, ◌<◌, ◌≤◌, length};
 ghost use Rattle.lsh.specs.Tabulate.{tabulate};
 ghost use Rattle.lsh.specs.Word.{add, subtract, rotate_left, rotate_right, xor};
@@ -15,7 +17,7 @@ ghost use Rattle.mix256.specs.Amounts.{shifts, beta_gamma, remaining, powers};
 use constants256::Lsh256;
 
 // The groups X and Y of the same lanes.
-#[derive(Drop)]
+#[derive(Clone, Copy)]
 struct Pair {
     x: [u32; 4],
     y: [u32; 4],

@@ -1,5 +1,7 @@
 // The mix of LSH-512 in groups of four words (22), forward and backward. The processor has nothing to give for four words of 64 bits at once, so a group is mixed
 // word by word, as the first engine does.
+#![tactic(auto)]
+
 ghost use Rattle.std.specs.Prelude.{◌≡◌, ◌+◌, ◌<◌, ◌≤◌, length};
 ghost use Rattle.lsh.specs.Tabulate.{at};
 ghost use Rattle.lsh.specs.WordSize.{lsh512, alpha, beta, gamma};
@@ -13,7 +15,7 @@ ghost use Rattle.groups.specs.GroupStep.{pair, groups, in_words, mix_pair, unmix
 use constants512::Lsh512;
 
 // The groups X and Y of the same lanes.
-#[derive(Drop)]
+#[derive(Clone, Copy)]
 struct Pair {
     x: [u64; 4],
     y: [u64; 4],

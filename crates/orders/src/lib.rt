@@ -1,11 +1,13 @@
 // The record of an order, and what a call on it answers. There are no functions here: specs/ has the definitions of the calls that change an order, and
 // proofs/ their laws.
+#![tactic(auto)]
+
 use limits::LONGEST_BLOCK;
 
 // What is kept of an order between calls: the word size, the digest length in bits, how many bytes there were, the chain after
 // their whole blocks, the bytes held since, and how far a split rewind is. C has it by value, as lsh_record.
 #[repr(C)]
-#[derive(Drop)]
+#[derive(Clone, Copy)]
 pub struct Record {
     pub w: u64,
     pub n: u64,
@@ -18,7 +20,7 @@ pub struct Record {
 // A split rewind: the mark, 0 or 1 once begun, the second chain, which is run back so far, the bytes handed back last, and the number of
 // blocks handed back. C has these as the last fields of lsh_record.
 #[repr(C)]
-#[derive(Drop)]
+#[derive(Clone, Copy)]
 pub struct Split {
     pub mark: u64,
     pub second: [u64; 16],
@@ -28,7 +30,7 @@ pub struct Split {
 
 // The answer to a call: its number, how many blocks were run, and the record that follows. C has it as lsh_outcome.
 #[repr(C)]
-#[derive(Drop)]
+#[derive(Clone, Copy)]
 pub struct Outcome {
     pub number: u32,
     pub count: u64,

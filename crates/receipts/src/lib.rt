@@ -1,8 +1,9 @@
 // What Same and Tally answer. There are no functions here: specs/ has the definitions of receipts and of the calls on them, and proofs/ their laws.
+#![tactic(auto)]
 
 // The answer to Same: its number, and whether the two receipts are the same. C has it as lsh_sameness.
 #[repr(C)]
-#[derive(Drop)]
+#[derive(Clone, Copy)]
 pub struct Sameness {
     pub number: u32,
     pub same: bool,
@@ -10,7 +11,7 @@ pub struct Sameness {
 
 // The answer to Tally: its number, the place of the first malformed receipt if the number is 14, and the counts. C has it as lsh_counts.
 #[repr(C)]
-#[derive(Drop)]
+#[derive(Clone, Copy)]
 pub struct Counts {
     pub number: u32,
     pub place: u64,

@@ -1,4 +1,6 @@
 // The record of an order, and the call Open.
+#![tactic(auto)]
+
 ghost use Rattle.std.specs.Prelude.{◌≡◌, true, ◌+◌, ◌^◌};
 ghost use Rattle.lsh.specs.WordSize.{is_word_size};
 ghost use Rattle.limits.specs.Limits.{is_digest_length};

@@ -1,4 +1,6 @@
 // Rewind: the end of an order is taken back by running its blocks backward.
+#![tactic(auto)]
+
 ghost use Rattle.std.specs.Prelude.{◌≡◌, true, false, not, ◌&&◌, ◌/◌, ◌<◌, ◌≤◌, eqb, length};
 ghost use Rattle.lsh.specs.WordSize.{is_word_size, size_of, block_bytes};
 ghost use Rattle.lsh.specs.Opening.{opening};

@@ -1,5 +1,7 @@
 // Rewind and the end of a split rewind with a roll: the end of an order is taken back, and the checkpoints past the new end are taken off its roll. The
 // roll is written last, when the answer is known.
+#![tactic(auto)]
+
 ghost use Rattle.std.specs.Prelude.{◌≡◌, true, List, ℕ};
 ghost use Rattle.lsh.specs.WordSize.{size_of};
 ghost use Rattle.checkpoints.specs.Roll.{is_roll};

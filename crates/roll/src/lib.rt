@@ -1,4 +1,6 @@
 // A roll of checkpoints in a lent buffer: its slots are walked from the head, a checkpoint is inserted behind the last, and links are taken off.
+#![tactic(auto)]
+
 ghost use Rattle.std.specs.Prelude.{◌≡◌, true, false, List, ℕ, ◌+◌, ◌<◌, ◌≤◌, length, set, replicate};
 ghost use Rattle.lsh.specs.WordSize.{is_word_size, size_of};
 ghost use Rattle.lsh.specs.Bytes.{word_at};
@@ -26,7 +28,7 @@ pub const SPACING: u64 = 64;
 
 // What is known of a roll that was walked: whether it has the form of one, how many slots it has and how many of them are linked, the last link, or 0,
 // and which slots are linked.
-#[derive(Drop)]
+#[derive(Clone, Copy)]
 pub struct Traversal {
     pub form: bool,
     pub slots: usize,

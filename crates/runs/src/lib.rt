@@ -1,4 +1,6 @@
 // Whole blocks on a chain of 16 numbers, for either word size and by either engine, and the opening chain.
+#![tactic(auto)]
+
 ghost use Rattle.std.specs.Prelude.{◌≡◌, true, ◌∷◌, ℕ, ◌+◌, ◌*◌, ◌/◌, ◌^◌, ◌<◌, ◌≤◌, length, replicate};
 ghost use Rattle.std.proofs.Math.Seq.{paste};
 ghost use Rattle.lsh.specs.Tabulate.{at};
@@ -15,7 +17,7 @@ use lsh256::Lsh256;
 use lsh512::Lsh512;
 
 // Which code runs the blocks: word by word, or in groups of four words. Both give the same chains, so that no contract names the one that a call is given.
-#[derive(Drop)]
+#[derive(Clone, Copy)]
 pub enum Engine {
     Words,
     Groups,
@@ -86,7 +88,7 @@ pub fn longest_digest(w: u64) -> u64
 }
 
 // A chain after whole blocks, and how many there were.
-#[derive(Drop)]
+#[derive(Clone, Copy)]
 pub struct Run {
     pub chain: [u64; 16],
     pub count: usize,

@@ -1,4 +1,6 @@
 // Same: two receipts compared, and the form of a receipt.
+#![tactic(auto)]
+
 ghost use Rattle.std.specs.Prelude.{◌≡◌, ◌≤◌, length};
 ghost use Rattle.limits.specs.Limits.{longest_digest};
 ghost use Rattle.receipts.specs.Receipt.{receipt_bytes};

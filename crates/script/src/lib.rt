@@ -1,4 +1,6 @@
 // The words of a replay script: a line taken apart into words, and what a word says.
+#![tactic(auto)]
+
 ghost use Rattle.std.specs.Prelude.{◌≡◌, true, ◌+◌, ◌-◌, ◌*◌, ◌<◌, ◌≤◌, length, drop};
 ghost use Rattle.lsh.specs.Tabulate.{tabulate};
 ghost use Rattle.script.specs.Words.{before, after_spaces, word_at, place_of};
@@ -17,7 +19,7 @@ pub const ROLL: usize = 65536;
 pub const ENGINES: u64 = 2;
 
 // The number that a word says, if it is one.
-#[derive(Drop)]
+#[derive(Clone, Copy)]
 pub struct Number {
     pub is: bool,
     pub value: u64,

@@ -1,5 +1,7 @@
 // A rewind that is split into steps: begin with the held bytes, hand back one whole block at a time from the last, and end with the number of bytes
 // to keep, or abandon it. Until the end the record is still that of the order before the rewind.
+#![tactic(auto)]
+
 ghost use Rattle.std.specs.Prelude.{◌≡◌, true, false, length};
 ghost use Rattle.lsh.specs.WordSize.{size_of, block_bytes};
 ghost use Rattle.orders.specs.Record.{sound, is_begun};

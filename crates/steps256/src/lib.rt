@@ -1,4 +1,6 @@
 // The steps of LSH-256, forward and backward, on a chain of 16 words of 32 bits. sc has the step constants, which a run of blocks lends.
+#![tactic(auto)]
+
 ghost use Rattle.std.specs.Prelude.{◌≡◌, ◌<◌};
 ghost use Rattle.lsh.specs.WordSize.{lsh256};
 ghost use Rattle.lsh.specs.StepConstants.{constant, constants};
@@ -8,7 +10,7 @@ ghost use Rattle.lsh.specs.Step.{add_message, mix, unmix, permute, unpermute, st
 use constants256::Lsh256;
 
 // The words X and Y of a lane.
-#[derive(Drop)]
+#[derive(Clone, Copy)]
 struct Pair {
     x: u32,
     y: u32,

@@ -1,4 +1,6 @@
 // The steps of LSH-512, forward and backward, on a chain of 16 words of 64 bits. sc has the step constants, which a run of blocks lends.
+#![tactic(auto)]
+
 ghost use Rattle.std.specs.Prelude.{◌≡◌, ◌<◌};
 ghost use Rattle.lsh.specs.WordSize.{lsh512};
 ghost use Rattle.lsh.specs.StepConstants.{constant, constants};
@@ -8,7 +10,7 @@ ghost use Rattle.lsh.specs.Step.{add_message, mix, unmix, permute, unpermute, st
 use constants512::Lsh512;
 
 // The words X and Y of a lane.
-#[derive(Drop)]
+#[derive(Clone, Copy)]
 pub struct Pair {
     pub x: u64,
     pub y: u64,

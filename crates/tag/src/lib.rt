@@ -1,4 +1,6 @@
 // Tags with a key: of one message, or of pieces between start and finish, and the check of a tag.
+#![tactic(auto)]
+
 ghost use Rattle.std.specs.Prelude.{◌≡◌, ◌++◌, ◌≤◌, length, take, drop};
 ghost use Rattle.limits.specs.Limits.{longest_block};
 ghost use Rattle.tags.specs.KeyAnswer.{tag_bytes, tag_answer, finish_answer};

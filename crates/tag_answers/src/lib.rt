@@ -1,4 +1,6 @@
 // What the calls with a key answer, by w, n, the lengths of the key and the message, and the size of the output.
+#![tactic(auto)]
+
 ghost use Rattle.std.specs.Prelude.{◌≡◌};
 ghost use Rattle.tags.specs.KeyAnswer.{key_answer, room_answer, tag_answer, finish_answer};
 

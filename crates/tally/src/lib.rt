@@ -1,4 +1,6 @@
 // Tally: a list of receipts counted.
+#![tactic(auto)]
+
 ghost use Rattle.std.specs.Prelude.{◌≡◌, ℕ, ◌*◌, ◌<◌, ◌≤◌, length};
 ghost use Rattle.lsh.specs.Tabulate.{at};
 ghost use Rattle.receipts.specs.Receipt.{receipt_bytes};

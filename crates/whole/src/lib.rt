@@ -1,4 +1,6 @@
 // Whole: the receipt of one message.
+#![tactic(auto)]
+
 ghost use Rattle.std.specs.Prelude.{◌≡◌, length};
 ghost use Rattle.receipts.specs.Whole.{whole_answer, whole_output};
 

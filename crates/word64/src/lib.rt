@@ -1,4 +1,6 @@
 // Words of 64 bits: the operations of LSH on them, and the bytes that hold them.
+#![tactic(auto)]
+
 ghost use Rattle.std.specs.Prelude.{◌≡◌, ◌+◌, ◌<◌, ◌≤◌, length};
 ghost use Rattle.std.proofs.lemmas.List.Edits.{sets};
 ghost use Rattle.lsh.specs.Tabulate.{tabulate};
