@@ -1,0 +1,16 @@
+use mathlib.Core.Path.{◌≡◌, refl, ap, ◌∙◌}
+use mathlib.Core.List.{List}
+use Prim.Native.Nat.{ℕ, ◌+◌, ◌-◌}
+use native.Mathlib.Omega.{arith}
+use lib.ListN.{length}
+use lib.Seq.{length-sets}
+use Rattle.lsh.specs.WordSize.{lsh256}
+use Rattle.loops.specs.Halves.{ExpandedFrom}
+use Rattle.loops.proofs.Halves.{from_more, from-up_to}
+use Rattle.ahead256.proofs.expand.Given as goal
+
+abbrev pub invariant-loop-j : goal.invariant-loop-j
+invariant-loop-j l = ((b : List ℕ) → ExpandedFrom lsh256 b l.initial.m l.k 1 → ExpandedFrom lsh256 b l.m l.k (l.j + 1)) × (length l.m ≡ length l.initial.m)
+
+abbrev pub decreases-loop-j : goal.decreases-loop-j
+decreases-loop-j l = l.j-end - l.j

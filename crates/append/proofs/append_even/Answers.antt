@@ -1,0 +1,22 @@
+use mathlib.Core.Path.{◌≡◌, sym}
+use native.Mathlib.Omega.{arith}
+use lib.ListN.{length}
+use borrow.Author.Rules.{rules}
+use Rattle.limits.specs.Limits.{longest_block, limit}
+use Rattle.orders.proofs.Sound.{sounds, chain-is}
+use Rattle.append.proofs.Appending.{even}
+use Rattle.append.proofs.append_even.Goals as goal
+
+pub absorb-t-requires : goal.absorb-t-requires
+absorb-t-requires c = let z = c.before.before in
+    let s = sounds z.args.r z.requires.0 in
+    (s.word, chain-is _ _ s.word (words z) s.below)
+
+pub overflow_add-r : goal.overflow_add-r
+unfolding limit
+overflow_add-r c = record { fits = omega (arith, c.requires.1) }
+
+pub returns : goal.returns
+returns c = let z = c.before.before.before.before.before.before in
+    let t = c.absorb-t in
+    rw (t.ensures.0, t.ensures.1, t.ensures.2) (sym (even z.args.r z.requires.0 (long z) z.args.piece.now z.requires.2))

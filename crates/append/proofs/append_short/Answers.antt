@@ -1,0 +1,19 @@
+use mathlib.Core.Path.{◌≡◌, sym}
+use native.Mathlib.Omega.{arith}
+use lib.ListN.{length}
+use borrow.Author.Rules.{rules}
+use Rattle.limits.specs.Limits.{longest_block, limit}
+use Rattle.limits.proofs.Limits.{block-most}
+use Rattle.append.proofs.Appending.{short}
+use Rattle.append.proofs.append_short.Goals as goal
+
+pub overflow_add-r : goal.overflow_add-r
+unfolding limit
+overflow_add-r c = record { fits = omega (arith, c.requires.1) }
+
+pub returns : goal.returns
+returns c = let z = c.before.before.before.before.before in
+    rw (c.with_part-joined.ensures, c.held_length-at.ensures) (sym (short z.args.r z.requires.0 (long z) z.args.piece.now z.requires.2))
+
+pub with_part-joined-requires : goal.with_part-joined-requires
+with_part-joined-requires c = omega (arith, c.held_length-at.ensures, c.requires.2, block-most c.args.r.w)

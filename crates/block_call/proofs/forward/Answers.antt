@@ -1,0 +1,23 @@
+use mathlib.Core.Path.{◌≡◌, refl, sym, ◌∙◌}
+use borrow.Author.Rules.{rules}
+use lib.ListN.{length}
+use Rattle.lsh.specs.Block.{forward, forwards}
+use Rattle.answers.proofs.Output.{refused-output}
+use Rattle.blocks.specs.BlockCall.{block_answer, run_bytes}
+use Rattle.blocks.proofs.Answers.{accepted, one-run}
+use Rattle.block_call.proofs.forward.Goals as goal
+
+took : (c : goal.Else-a-ne0) → block_answer c.args.w (length c.args.chain-1.now) (length c.args.block.now) ≡ 0
+took c = sym c.answer-a.ensures ∙ c.if-a-ne0.false
+
+pub returns-then-a-ne0 : goal.returns-then-a-ne0
+unfolding run_bytes forward forwards
+returns-then-a-ne0 c = refused-output _ _ _ c.args.chain-1.now c.answer-a.ensures c.if-a-ne0.true
+
+pub forward_bytes-requires : goal.forward_bytes-requires
+unfolding run_bytes forward forwards
+forward_bytes-requires c = let ok = accepted _ _ _ (took c.before) in (ok.size, ok.chain-1)
+
+pub returns : goal.returns
+unfolding run_bytes forward forwards
+returns c = one-run forward forwards _ _ _ (λ b t. refl) (took c.before.before.before.before) c.forward_bytes.ensures

@@ -1,0 +1,12 @@
+use mathlib.Core.Path.{refl}
+use Prim.Native.Nat.{◌+◌, ◌-◌}
+use native.Mathlib.Omega.{arith}
+use Rattle.lsh.specs.Tabulate.{at}
+use Rattle.loops.proofs.Places.{Placed, placed-none, placed-more, copied_all}
+use Rattle.buffers.proofs.put.Given as goal
+
+abbrev pub invariant-loop-i : goal.invariant-loop-i
+invariant-loop-i l = Placed l.n (λ k. l.from + k) (at l.part) l.initial.output l.output l.i
+
+abbrev pub decreases-loop-i : goal.decreases-loop-i
+decreases-loop-i l = l.n - l.i

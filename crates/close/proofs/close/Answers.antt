@@ -1,0 +1,65 @@
+use mathlib.Core.Path.{sym, ap, ◌∙◌}
+use mathlib.Core.Bool.{Bool}
+use mathlib.Core.List.{List}
+use Prim.Native.Nat.{◌+◌, ◌*◌}
+use native.Mathlib.Omega.{arith}
+use lib.ListN.{length}
+use borrow.Author.Rules.{rules}
+use Rattle.limits.specs.Limits.{limit}
+use Rattle.orders.proofs.Sound.{Sound, sounds}
+use Rattle.limits.proofs.Limits.{digest-most}
+use Rattle.answers.proofs.Output.{refused-output, written-output}
+use Rattle.receipts.specs.Receipt.{receipt}
+use Rattle.receipts.specs.Close.{close_output}
+use Rattle.receipts.proofs.CloseAnswers.{Accepted, accepted}
+use Rattle.close.proofs.close.Goals as goal
+
+-- the entry of the call
+abbrev start : goal.Else-a-ne0 → goal.Start
+start c = c.before.before.before
+
+-- the call is accepted
+passed : (c : goal.Else-a-ne0)
+    → Accepted (start c).args.r (start c).args.last (start c).args.e (length (start c).args.output-1.now)
+passed c =
+    let a = (start c).args in
+    accepted a.r a.last a.e (length a.output-1.now) (sym c.answer-a.ensures ∙ c.if-a-ne0.false)
+
+is-sound : (c : goal.Else-a-ne0) → Sound (start c).args.r
+is-sound c = sounds (start c).args.r (passed c).sound_record
+
+pub write_receipt-requires : goal.write_receipt-requires
+write_receipt-requires c = let p = c.before.before.before in
+    let r = (start p).args.r in
+    let s : Sound r = is-sound p in
+    (s.word, digest-most r.w r.n s.digest_length, c.final_chain-t.ensures.0, (passed p).end.room)
+
+pub returns : goal.returns
+unfolding close_output
+returns c = let p = c.before.before.before.before.before.before in
+    let z = start p in
+    let r = z.args.r in
+    written-output _ _ _ z.args.output-1.now
+    (sym p.answer-a.ensures ∙ p.if-a-ne0.false)
+    (ap (λ (d : List Bool). receipt r.w r.n d (8 * r.total + z.args.e)) c.final_chain-t.ensures.1)
+    c.write_receipt.ensures
+
+pub returns-then-a-ne0 : goal.returns-then-a-ne0
+unfolding limit close_output
+returns-then-a-ne0 c = refused-output _ _ _ c.args.output-1.now c.answer-a.ensures c.if-a-ne0.true
+
+pub overflow_mul-bits : goal.overflow_mul-bits
+unfolding limit close_output
+overflow_mul-bits c = omega (arith, (is-sound c.before).few)
+
+pub overflow_add-bits : goal.overflow_add-bits
+unfolding limit close_output
+overflow_add-bits c = omega (arith, (is-sound c.before).few, (passed c.before).end.extra)
+
+pub overflow_cast-e : goal.overflow_cast-e
+unfolding limit close_output
+overflow_cast-e c = record { fits = omega (arith, (passed c.before).end.extra) }
+
+pub final_chain-t-requires : goal.final_chain-t-requires
+unfolding limit close_output
+final_chain-t-requires c = ((passed c.before).sound_record, (passed c.before).end.extra, (passed c.before).end.low)

@@ -1,0 +1,14 @@
+use mathlib.Core.Path.{◌≡◌, refl}
+use Prim.Native.Nat.{◌-◌, ◌*◌}
+use native.Mathlib.Omega.{arith}
+use borrow.Author.Rules.{rules}
+use lib.ListN.{length}
+use Rattle.lsh.specs.WordSize.{lsh512}
+use Rattle.loops.proofs.Constants.{WorkedOut, worked-none, worked-more, worked-all}
+use Rattle.constants512.proofs.step_constants.Given as goal
+
+abbrev pub invariant-loop-j : goal.invariant-loop-j
+invariant-loop-j l = WorkedOut lsh512 l.initial.sc l.sc l.p l.j
+
+abbrev pub decreases-loop-j : goal.decreases-loop-j
+decreases-loop-j l = lsh512.steps - l.j

@@ -1,0 +1,16 @@
+use Prim.Native.Nat.{◌+◌, ◌-◌}
+use native.Mathlib.Omega.{arith}
+use borrow.Author.Rules.{rules}
+use Rattle.lsh.specs.Tabulate.{at}
+use Rattle.lsh.specs.Word.{xor}
+use Rattle.loops.proofs.Places.{Placed, placed-none, filled_more, front-stored}
+use Rattle.finalization.proofs.final_words.Goals as goal
+
+pub loop-l-init : goal.loop-l-init
+loop-l-init c = placed-none _ _ _ _
+
+pub loop-l-preserved : goal.loop-l-preserved
+loop-l-preserved c = filled_more _ c.loop-l.invariant c.loop-l-test.true (omega arith) c.exclusive_or.ensures
+
+pub returns : goal.returns
+returns c = front-stored c.loop-l.invariant c.loop-l-test.false (omega arith)

@@ -1,0 +1,6 @@
+use borrow.Author.Rules.{rules}
+use Rattle.finalization.proofs.LastByte.{low}
+use Rattle.finalization.proofs.low_bits.Goals as goal
+
+pub returns : goal.returns
+returns c = low _ _ c.requires

@@ -1,0 +1,14 @@
+use mathlib.Core.Path.{refl}
+use native.Mathlib.Omega.{arith}
+use borrow.Author.Rules.{rules}
+use Rattle.lsh.specs.WordSize.{lsh256}
+use Rattle.lsh.proofs.Bytes.{length-words}
+use Rattle.loops.specs.Rows.{expanded_words}
+use Rattle.loops.proofs.Rows.{expanded-stored}
+use Rattle.loops.proofs.Turns.{unstepped-none, run-back}
+use Rattle.groups256.proofs.backward_block.Goals as goal
+
+pub returns : goal.returns
+unfolding lsh256 expanded_words
+returns c = run-back (expanded-stored _ _ (length-words lsh256 32 _) (omega arith) c.load_block.ensures c.expand.ensures) refl _
+    (c.all_unsteps.ensures _ (unstepped-none _ c.sub_message.ensures c.add_message-r.ensures))

@@ -1,0 +1,24 @@
+use mathlib.Core.Path.{◌∙◌}
+use mathlib.Core.Logic.{⊎_elim}
+use Prim.Native.Nat.{◌-◌, ◌*◌, ◌≤◌}
+use native.Mathlib.Omega.{arith}
+use borrow.Author.Rules.{rules}
+use Rattle.lsh.specs.WordSize.{lsh512}
+use Rattle.loops.proofs.Turns.{Stepped, stepped-none, stepped-is, stepped-one, stepped-two, stepped-all}
+use Rattle.groups512.proofs.all_steps.Goals as goal
+
+pub loop-k-init : goal.loop-k-init
+unfolding lsh512
+loop-k-init c = (stepped-none lsh512 _ _ _, omega arith)
+
+pub loop-k-preserved : goal.loop-k-preserved
+unfolding lsh512
+loop-k-preserved c = (stepped-two _ c.loop-k.invariant.0 (omega arith) c.two_steps-u.ensures, omega arith)
+
+pub returns : goal.returns
+unfolding lsh512
+returns c = let h = c.loop-k.invariant.0 in
+    ⊎_elim
+    (λ w. stepped-all (stepped-one (stepped-is h (omega arith)) (omega arith) w.1.ensures (w.3 ∙ w.2.ensures)) (omega arith) c.sub_message-2.ensures c.add_message.ensures)
+    (λ w. stepped-all h (omega arith) c.sub_message-2.ensures (rw w.1 at c.add_message.ensures))
+    c.if-steps-eq1.branch

@@ -1,0 +1,14 @@
+use mathlib.Core.Path.{◌∙◌}
+use mathlib.Core.Logic.{⊎_elim}
+use Prim.Native.Nat.{◌-◌, ◌*◌, ◌≤◌}
+use native.Mathlib.Omega.{arith}
+use borrow.Author.Rules.{rules}
+use Rattle.lsh.specs.WordSize.{lsh512}
+use Rattle.loops.proofs.Turns.{Stepped, stepped-none, stepped-is, stepped-one, stepped-two, stepped-all}
+use Rattle.groups512.proofs.all_steps.Given as goal
+
+abbrev pub invariant-loop-k : goal.invariant-loop-k
+invariant-loop-k l = Stepped lsh512 l.m l.steps (l.k * 2) l.initial.r l.r × (l.k * 2 ≤ l.steps)
+
+abbrev pub decreases-loop-k : goal.decreases-loop-k
+decreases-loop-k l = l.k-end - l.k

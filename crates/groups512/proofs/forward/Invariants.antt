@@ -1,0 +1,15 @@
+use mathlib.Core.Path.{◌≡◌, refl, sym, ◌∙◌}
+use Prim.Native.Nat.{◌-◌, ◌/◌}
+use native.Mathlib.Omega.{arith}
+use borrow.Author.Rules.{rules}
+use lib.ListN.{length}
+use Rattle.lsh.specs.WordSize.{lsh512, block_bytes}
+use Rattle.loops.specs.Rows.{expanded_words}
+use Rattle.loops.proofs.Runs.{length_part, RunForward, run-forward-none, run-forward-more, run-forward-all}
+use Rattle.groups512.proofs.forward.Given as goal
+
+abbrev pub invariant-loop-count : goal.invariant-loop-count
+invariant-loop-count l = RunForward lsh512 l.steps l.n l.s l.initial.c l.c l.count × (length l.m ≡ expanded_words lsh512) × (l.n ≡ length l.s / block_bytes lsh512)
+
+abbrev pub decreases-loop-count : goal.decreases-loop-count
+decreases-loop-count l = l.n - l.count

@@ -1,0 +1,35 @@
+use mathlib.Core.Path.{◌≡◌, ap, ◌∙◌}
+use Prim.Native.Nat.{ℕ, ◌-◌}
+use native.Mathlib.Omega.{arith}
+use lib.Bits.{bit_xor}
+use lib.ListN.{length, get_or}
+use mir.Syntax.{w8}
+use mir.Val.{Fits}
+use borrow.Author.Rules.{rules}
+use Rattle.lsh.specs.Tabulate.{at}
+use Rattle.lsh.specs.Word.{xor}
+use Rattle.loops.proofs.Machine.{xor_is}
+use Rattle.loops.proofs.Places.{Placed, placed-none, filled_more, filled-all}
+use Rattle.limits.specs.Limits.{longest_block}
+use Rattle.tags.specs.Hmac.{xor_each}
+use Rattle.hmac.proofs.xor_each.Goals as goal
+
+fits : (z : goal.Start invariant-loop decreases-loop) (i : ℕ) → Fits w8 (get_or z.args.block i 0)
+fits z i = search rules
+
+pub loop-i-init : goal.loop-i-init
+unfolding xor_each
+loop-i-init c = placed-none _ _ _ _
+
+pub loop-i-preserved : goal.loop-i-preserved
+unfolding xor_each
+loop-i-preserved c = let z = c.before in
+    let long : length z.args.block ≡ longest_block = search rules in
+    let same : at c.loop-i.b c.loop-i.i ≡ at z.args.block c.loop-i.i = c.loop-i.invariant.rest c.loop-i.i (λ k lt e. omega arith) in
+    filled_more _ c.loop-i.invariant c.loop-i-test.true (omega arith)
+    (ap (λ (b : ℕ). bit_xor b z.args.x) same ∙ xor_is 8 (at z.args.block c.loop-i.i) z.args.x (fits z c.loop-i.i).fits z.ranges.x.fits)
+
+pub returns : goal.returns
+unfolding xor_each
+returns c = let long : length c.args.block ≡ longest_block = search rules in
+    filled-all c.loop-i.invariant c.loop-i-test.false long ∙ rw long

@@ -1,0 +1,13 @@
+use Prim.Native.Nat.{◌-◌, ◌*◌, ◌≤◌}
+use native.Mathlib.Omega.{arith}
+use borrow.Author.Rules.{rules}
+use Rattle.lsh.specs.WordSize.{lsh256}
+use Rattle.loops.specs.Rows.{expanded_words}
+use Rattle.loops.proofs.Turns.{Stepped, stepped-none, stepped-two, stepped-all}
+use Rattle.lsh256.proofs.all_steps.Given as goal
+
+abbrev pub invariant-loop-k : goal.invariant-loop-k
+invariant-loop-k l = Stepped lsh256 l.m lsh256.steps (l.k * 2) l.initial.r l.r × (l.k * 2 ≤ lsh256.steps)
+
+abbrev pub decreases-loop-k : goal.decreases-loop-k
+decreases-loop-k l = lsh256.steps - l.k * 2

@@ -1,0 +1,16 @@
+use mathlib.Core.Path.{◌≡◌, sym, ◌∙◌}
+use Prim.Native.Nat.{◌+◌, ◌-◌}
+use native.Mathlib.Omega.{arith}
+use borrow.Author.Rules.{rules}
+use lib.ListN.{length, take}
+use Rattle.lsh.specs.WordSize.{lsh256}
+use Rattle.lsh.specs.Expansion.{sub_message}
+use Rattle.loops.specs.Rows.{expanded_words, Expanded}
+use Rattle.loops.proofs.Rows.{sub-next, expanded-none, expanded-more, expanded-up_to}
+use Rattle.lsh256.proofs.expand.Given as goal
+
+abbrev pub invariant-loop-j : goal.invariant-loop-j
+invariant-loop-j l = Expanded lsh256 (take 32 l.initial.m) l.m (l.j + 1) × (l.p ≡ sub_message lsh256 (take 32 l.initial.m) (l.j + 1)) × (l.q ≡ sub_message lsh256 (take 32 l.initial.m) l.j) × (length l.initial.m ≡ expanded_words lsh256)
+
+abbrev pub decreases-loop-j : goal.decreases-loop-j
+decreases-loop-j l = l.j-end - l.j

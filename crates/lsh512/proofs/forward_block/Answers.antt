@@ -1,0 +1,13 @@
+use mathlib.Core.Path.{refl}
+use borrow.Author.Rules.{rules}
+use Rattle.lsh.specs.WordSize.{lsh512}
+use Rattle.loops.proofs.Turns.{run-to}
+use Rattle.lsh512.proofs.forward_block.Goals as goal
+
+pub returns-then-steps-eq-STEPS : goal.returns-then-steps-eq-STEPS
+unfolding lsh512
+returns-then-steps-eq-STEPS c = run-to c.expand_block.ensures c.if-steps-eq-STEPS.true _ c.all_steps.ensures
+
+pub returns : goal.returns
+unfolding lsh512
+returns c = run-to c.expand_block.ensures refl _ c.some_steps.ensures

@@ -1,0 +1,25 @@
+use mathlib.Core.Path.{◌≡◌}
+use Prim.Native.Nat.{◌-◌, ◌*◌}
+use native.Mathlib.Omega.{arith}
+use lib.ListN.{length}
+use Rattle.lsh.specs.WordSize.{lsh512, word_bytes, block_bytes}
+use Rattle.lsh.specs.Bytes.{word_at, words_of}
+use Rattle.loops.specs.Rows.{expanded_words}
+use Rattle.loops.proofs.Places.{Placed, placed-none, filled_more, stored-front}
+use Rattle.lsh512.proofs.load_block.Goals as goal
+
+pub loop-l-init : goal.loop-l-init
+unfolding words_of word_bytes block_bytes lsh512 expanded_words
+loop-l-init c = (placed-none 32 _ _ _, c.requires.0)
+
+pub loop-l-preserved : goal.loop-l-preserved
+unfolding words_of word_bytes block_bytes lsh512 expanded_words
+loop-l-preserved c = (filled_more _ c.loop-l.invariant.0 c.loop-l-test.true (omega arith) c.load.ensures, c.loop-l.invariant.1)
+
+pub shape_of-m : goal.shape_of-m
+unfolding words_of word_bytes block_bytes lsh512 expanded_words
+shape_of-m c = c.loop-l.invariant.0.len
+
+pub returns : goal.returns
+unfolding words_of word_bytes block_bytes lsh512 expanded_words
+returns c = stored-front c.loop-l.invariant.0 c.loop-l-test.false (omega arith)

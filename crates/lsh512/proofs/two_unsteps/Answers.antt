@@ -1,0 +1,7 @@
+use borrow.Author.Rules.{rules}
+use Rattle.lsh.specs.WordSize.{lsh512}
+use Rattle.lsh512.proofs.two_unsteps.Goals as goal
+
+pub returns : goal.returns
+unfolding lsh512
+returns c = rw (c.unstep.ensures, c.sub_message-2.ensures, c.unstep-u.ensures, c.sub_message.ensures)

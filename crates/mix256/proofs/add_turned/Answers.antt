@@ -1,0 +1,10 @@
+use mathlib.Core.Path.{◌≡◌}
+use Prim.Native.Nat.{◌-◌}
+use native.Mathlib.Omega.{arith}
+use borrow.Author.Rules.{rules}
+use Rattle.loops.proofs.Machine.{add_left}
+use Rattle.mix256.proofs.add_turned.Goals as goal
+
+pub returns : goal.returns
+returns c = let rest : c.args.h ≡ 32 - c.args.l = omega arith in
+    rw (c.add-2.ensures, c.add.ensures, rest) (add_left 32 c.args.l c.args.u c.args.x (omega arith))

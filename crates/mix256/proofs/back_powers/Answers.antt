@@ -1,0 +1,9 @@
+use mathlib.Core.Path.{refl}
+use Rattle.lsh.specs.Tabulate.{tabulate, tabulate_from}
+use Rattle.lsh.specs.WordSize.{lsh256, gamma}
+use Rattle.mix256.specs.Amounts.{remaining, powers}
+use Rattle.mix256.proofs.back_powers.Goals as goal
+
+pub returns : goal.returns
+unfolding powers remaining gamma lsh256 tabulate tabulate_from
+returns c = refl

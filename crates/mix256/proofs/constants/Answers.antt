@@ -1,0 +1,21 @@
+use mathlib.Core.Path.{refl}
+use Prim.Native.Nat.{◌-◌}
+use native.Mathlib.Omega.{arith}
+use Rattle.lsh.specs.WordSize.{lsh256}
+use Rattle.lsh.specs.StepConstants.{constant}
+use Rattle.loops.proofs.Constants.{at_constant}
+use Rattle.loops.proofs.Places.{Placed, placed-none, filled_more, filled-all}
+use Rattle.mix256.proofs.constants.Goals as goal
+
+pub loop-l-init : goal.loop-l-init
+unfolding lsh256
+loop-l-init c = placed-none 8 _ _ _
+
+pub loop-l-preserved : goal.loop-l-preserved
+unfolding lsh256
+loop-l-preserved c = filled_more _ c.loop-l.invariant c.loop-l-test.true (omega arith)
+    (at_constant lsh256 c.args.sc.now c.requires.0 c.args.j c.loop-l.l c.requires.1 c.loop-l-test.true)
+
+pub returns : goal.returns
+unfolding lsh256
+returns c = filled-all c.loop-l.invariant c.loop-l-test.false refl

@@ -1,0 +1,19 @@
+use mathlib.Core.Path.{refl}
+use Prim.Native.Nat.{◌+◌, ◌-◌}
+use native.Mathlib.Omega.{arith}
+use Rattle.lsh.specs.Tabulate.{at}
+use Rattle.loops.specs.Fours.{four}
+use Rattle.loops.proofs.Places.{Placed, placed-none, filled_more, filled-all}
+use Rattle.mix256.proofs.four.Goals as goal
+
+pub loop-i-init : goal.loop-i-init
+unfolding four
+loop-i-init c = placed-none 4 _ _ _
+
+pub loop-i-preserved : goal.loop-i-preserved
+unfolding four
+loop-i-preserved c = filled_more _ c.loop-i.invariant c.loop-i-test.true (omega arith) refl
+
+pub returns : goal.returns
+unfolding four
+returns c = filled-all c.loop-i.invariant c.loop-i-test.false refl

@@ -1,0 +1,8 @@
+use borrow.Author.Rules.{rules}
+use Rattle.lsh.specs.Tabulate.{tabulate, tabulate_from}
+use Rattle.groups.specs.Group.{wordwise}
+use Rattle.mix256.proofs.subtract.Goals as goal
+
+pub returns : goal.returns
+unfolding wordwise tabulate tabulate_from
+returns c = rw (c.subtract-4.ensures, c.subtract-3.ensures, c.subtract-2.ensures, c.subtract.ensures)

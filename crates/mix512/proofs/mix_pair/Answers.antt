@@ -1,0 +1,29 @@
+use mathlib.Core.Path.{◌∙◌}
+use native.Mathlib.Omega.{arith}
+use borrow.Author.Rules.{rules}
+use Rattle.lsh.specs.WordSize.{lsh512}
+use Rattle.lsh.proofs.Figures.{amounts512}
+use Rattle.loops.proofs.Groups.{four-constants}
+use Rattle.loops.proofs.Pairs.{gamma-below, mixed-pair}
+use Rattle.mix512.proofs.mix_pair.Goals as goal
+
+pub mix_word-p-requires : goal.mix_word-p-requires
+unfolding lsh512
+mix_word-p-requires c = (gamma-below amounts512 _ c.gamma-g.ensures 0, search rules)
+
+pub mix_word-q-requires : goal.mix_word-q-requires
+unfolding lsh512
+mix_word-q-requires c = (gamma-below amounts512 _ c.gamma-g.ensures 1, search rules)
+
+pub mix_word-r-requires : goal.mix_word-r-requires
+unfolding lsh512
+mix_word-r-requires c = (gamma-below amounts512 _ c.gamma-g.ensures 2, search rules)
+
+pub mix_word-s-requires : goal.mix_word-s-requires
+unfolding lsh512
+mix_word-s-requires c = (gamma-below amounts512 _ c.gamma-g.ensures 3, search rules)
+
+pub returns : goal.returns
+unfolding lsh512
+returns c = mixed-pair lsh512 _ _ _ _ c.gamma-g.ensures (c.four-c.ensures ∙ four-constants lsh512 c.args.sc.now c.requires.0 _ _ c.requires.1 c.requires.2)
+    c.mix_word-p.ensures c.mix_word-q.ensures c.mix_word-r.ensures c.mix_word-s.ensures

@@ -1,0 +1,9 @@
+use borrow.Author.Rules.{rules}
+use Rattle.lsh.specs.WordSize.{lsh512}
+use Rattle.loops.proofs.Groups.{unmixed-by-groups}
+use Rattle.mix512.proofs.unmix.Goals as goal
+
+pub returns : goal.returns
+returns c = unmixed-by-groups lsh512 _ _ c.in_words.ensures
+    (rw (c.unmix_pair-p.ensures, c.four-2.ensures, c.four.ensures))
+    (rw (c.unmix_pair-q.ensures, c.four-4.ensures, c.four-3.ensures))

@@ -1,0 +1,55 @@
+use mathlib.Core.Path.{◌≡◌, sym, ◌∙◌}
+use mathlib.Core.Bool.{true, false}
+use lib.Dec.{leb}
+use borrow.Author.Rules.{rules}
+use borrow.Author.Tests.{not-true, not-false, le-leb, lt-leb}
+use Rattle.lsh.specs.WordSize.{is_word_size}
+use Rattle.limits.specs.Limits.{is_digest_length, limit}
+use Rattle.orders.specs.declared.Record.{Record}
+use Rattle.orders.specs.Record.{sound}
+use Rattle.record.proofs.is_sound.Goals as goal
+
+-- what each test that was passed says
+word-passed : (c : goal.Else-not-is_word_size) → is_word_size c.args.r.w ≡ true
+word-passed c = sym c.is_word_size.ensures ∙ not-false _ c.if-not-is_word_size.false
+
+digest-passed : (c : goal.Else-not-is_digest_length)
+    → is_digest_length c.args.r.w c.args.r.n ≡ true
+digest-passed c = sym c.is_digest_length.ensures ∙ not-false _ c.if-not-is_digest_length.false
+
+pub returns-then-not-is_word_size : goal.returns-then-not-is_word_size
+unfolding sound
+returns-then-not-is_word_size c = let f : is_word_size c.args.r.w ≡ false = sym c.is_word_size.ensures ∙ not-true _ c.if-not-is_word_size.true in
+    rw f
+
+pub returns-then-not-is_digest_length : goal.returns-then-not-is_digest_length
+unfolding sound
+returns-then-not-is_digest_length c = let r : Record = c.args.r in
+    let f : is_digest_length r.w r.n ≡ false = sym c.is_digest_length.ensures ∙ not-true _ c.if-not-is_digest_length.true in
+    rw (word-passed c.before.before, f)
+
+pub returns-then-total : goal.returns-then-total
+unfolding sound limit
+returns-then-total c = rw (word-passed c.before.before.before, digest-passed c.before, lt-leb _ _ c.if-total.true)
+
+pub returns : goal.returns
+unfolding sound
+returns c = let e = c.before in
+    rw (
+      c.is_split_sound.ensures,
+      c.zero_from.ensures,
+      c.words_below.ensures,
+      c.held_length-at.ensures,
+      word-passed e.before.before.before,
+      digest-passed e.before,
+      few-passed e,
+    )
+
+pub is_digest_length-requires : goal.is_digest_length-requires
+is_digest_length-requires c = word-passed c
+
+pub words_below-requires : goal.words_below-requires
+words_below-requires c = word-passed c.before.before.before.before
+
+pub is_split_sound-requires : goal.is_split_sound-requires
+is_split_sound-requires c = word-passed c.before.before.before.before.before.before.before

@@ -1,0 +1,20 @@
+use mathlib.Core.Path.{◌≡◌, refl, sym}
+use mathlib.Core.Bool.{true}
+use Prim.Native.Nat.{ℕ, ◌-◌, ◌^◌, ◌≤◌, zero-le}
+use native.Mathlib.Omega.{arith}
+use mir.Syntax.{w64}
+use mir.Val.{Fits}
+use lib.ListN.{length, drop, get_or, drop_of_length-le}
+use borrow.Author.Rules.{rules}
+use borrow.Author.Tests.{lt-ltb, le-ltb}
+use Rattle.lsh.specs.WordSize.{is_word_size}
+use Rattle.lsh.proofs.Figures.{by_size}
+use Rattle.lists.specs.Lists.{all_below}
+use Rattle.lists.proofs.Lists.{below_at, all-below}
+use Rattle.record.proofs.words_below.Given as goal
+
+abbrev pub invariant-loop-i : goal.invariant-loop-i
+invariant-loop-i l = (l.i ≤ 16) × (all_below (2 ^ 32) l.c ≡ all_below (2 ^ 32) (drop l.i l.c)) × (length l.c ≡ 16) × (l.w ≡ 32)
+
+abbrev pub decreases-loop-i : goal.decreases-loop-i
+decreases-loop-i l = 16 - l.i

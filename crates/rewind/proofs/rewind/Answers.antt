@@ -1,0 +1,23 @@
+use mathlib.Core.Path.{◌≡◌, sym, ◌∙◌}
+use mathlib.Core.Bool.{true, false}
+use borrow.Author.Rules.{rules}
+use Rattle.orders.specs.Record.{sound, is_begun}
+use Rattle.orders.proofs.InTurn.{turn-refused, turn-passed, in-turn}
+use Rattle.orders.specs.Rewind.{rewind_call}
+use Rattle.rewind.proofs.rewind.Goals as goal
+
+turn_is : (c : goal.Else-a-ne0) → (sound c.args.r ≡ true) × (is_begun c.args.r ≡ false)
+turn_is c = turn-passed _ c.is_begun.ensures c.turn-a.ensures c.if-a-ne0.false
+
+pub returns-then-a-ne0 : goal.returns-then-a-ne0
+unfolding rewind_call
+returns-then-a-ne0 c = c.refused.ensures ∙ turn-refused _ c.is_begun.ensures c.turn-a.ensures _ c.if-a-ne0.true
+
+pub in_turn-requires : goal.in_turn-requires
+unfolding rewind_call
+in_turn-requires c = (turn_is c).0
+
+pub returns : goal.returns
+unfolding rewind_call
+returns c = let turn = turn_is c.before in
+    c.in_turn.ensures ∙ sym (in-turn _ turn.0 _ turn.1)

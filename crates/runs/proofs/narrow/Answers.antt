@@ -1,0 +1,19 @@
+use mathlib.Core.Path.{refl, ◌∙◌}
+use Prim.Native.Nat.{◌-◌}
+use native.Mathlib.Omega.{arith}
+use Rattle.lsh.specs.Tabulate.{at}
+use Rattle.lsh.proofs.Tabulate.{tabulate-ext}
+use Rattle.loops.proofs.Places.{Placed, placed-none, filled_more, filled-all}
+use Rattle.runs.proofs.narrow.Goals as goal
+
+pub loop-l-init : goal.loop-l-init
+loop-l-init c = placed-none 16 _ _ _
+
+pub overflow_cast-r : goal.overflow_cast-r
+overflow_cast-r c = record { fits = c.requires c.loop-l.l }
+
+pub loop-l-preserved : goal.loop-l-preserved
+loop-l-preserved c = filled_more _ c.loop-l.invariant c.loop-l-test.true (omega arith) refl
+
+pub returns : goal.returns
+returns c = filled-all c.loop-l.invariant c.loop-l-test.false refl ∙ tabulate-ext 16 _ c.args.t1 c.well-formed.0.1.0.1 (λ k h. refl)

@@ -1,0 +1,23 @@
+use mathlib.Core.Path.{◌≡◌, refl}
+use mathlib.Core.Logic.{⊎_elim}
+use Prim.Native.Nat.{◌-◌, ◌≤◌, zero-le}
+use native.Mathlib.Omega.{arith}
+use lib.ListN.{length, drop}
+use Rattle.script.specs.Words.{after_spaces}
+use Rattle.script.proofs.Lines.{after-here, after_one, after-no, after-all}
+use Rattle.script.proofs.after_spaces.Goals as goal
+
+pub loop-i-init : goal.loop-i-init
+loop-i-init c = (zero-le, refl)
+
+pub returns-then-left-eq0 : goal.returns-then-left-eq0
+returns-then-left-eq0 c = (after-here c.args.k c.args.line.now c.loop-i.i c.loop-i.left c.loop-i.invariant.1 c.if-left-eq0.true, omega arith)
+
+pub loop-i-preserved : goal.loop-i-preserved
+loop-i-preserved c = ⊎_elim
+    (λ w. (omega arith, rw w.1 (after_one c.args.k c.args.line.now c.loop-i.i c.loop-i.left c.loop-i.invariant.1 (omega arith) c.if-left-eq0.false w.0.taken)))
+    (λ w. (omega arith, rw w.1 (after-no c.args.k c.args.line.now c.loop-i.i c.loop-i.left c.loop-i.invariant.1 (omega arith) c.if-left-eq0.false w.0.left)))
+    c.if-line-i-eq32.branch
+
+pub returns : goal.returns
+returns c = (after-all c.args.k c.args.line.now c.loop-i.i c.loop-i.left c.loop-i.invariant.1 (omega arith), omega arith)

@@ -1,0 +1,13 @@
+use mathlib.Core.Path.{◌≡◌, ap, ◌∙◌}
+use Prim.Native.Nat.{ℕ, ◌-◌, ◌*◌, ◌^◌, ◌≤◌, ◌<◌}
+use native.Mathlib.Omega.{arith}
+use borrow.Author.Rules.{rules}
+use Rattle.script.specs.Numbers.{highest_first}
+use Rattle.script.proofs.Chains.{highest-none, highest-lt, highest-fits, highest-more}
+use Rattle.script.proofs.chain_word.Given as goal
+
+abbrev pub invariant-loop-i : goal.invariant-loop-i
+invariant-loop-i l = (l.i ≤ 8) × (l.x ≡ highest_first l.i l.s l.a) × (l.x < 2 ^ (8 * l.i))
+
+abbrev pub decreases-loop-i : goal.decreases-loop-i
+decreases-loop-i l = 8 - l.i

@@ -1,0 +1,43 @@
+use mathlib.Core.Path.{◌≡◌}
+use Prim.Native.Nat.{◌/◌, ◌<◌}
+use native.Mathlib.Nat.{div-le_self}
+use native.Mathlib.Omega.{arith}
+use lib.ListN.{length}
+use borrow.Author.Rules.{rules}
+use Rattle.lsh.specs.WordSize.{size_of, block_bytes}
+use Rattle.limits.specs.Limits.{limit}
+use Rattle.limits.proofs.Limits.{block-most}
+use Rattle.orders.specs.Record.{held_of}
+use Rattle.orders.specs.declared.Record.{Record}
+use Rattle.orders.proofs.Sound.{sounds}
+use Rattle.orders.specs.HandBack.{handed_back}
+use Rattle.orders.proofs.HandBacks.{a_block, second-chain}
+use Rattle.split_rewind.proofs.handed_back.Goals as goal
+
+module _ (z : goal.Start) where
+  abbrev R : Record
+  R = z.args.r
+
+  words : length R.split.second-1 ≡ 16
+  words = search rules
+
+  block : (length z.args.block.now ≡ block_bytes (size_of R.w)) × (R.split.blocks < R.total / block_bytes (size_of R.w))
+  block = a_block (block_bytes (size_of R.w)) R.total R.split.blocks (length z.args.block.now) z.requires.2
+
+pub backward-run-requires : goal.backward-run-requires
+unfolding handed_back held_of limit
+backward-run-requires c = let z = c.before.before.before in
+    ((sounds (R z) z.requires.0).word, second-chain (R z) z.requires.0 z.requires.1 (words z))
+
+pub zero_filled-back-requires : goal.zero_filled-back-requires
+unfolding handed_back held_of limit
+zero_filled-back-requires c = let z = c.before.before.before.before.before in omega (arith, (block z).0, block-most (R z).w)
+
+pub overflow_add-result : goal.overflow_add-result
+unfolding handed_back held_of limit
+overflow_add-result c = let z = c.before.before.before.before.before.before.before in
+    record { fits = omega (arith, (block z).1, div-le_self (R z).total (block_bytes (size_of (R z).w)), (sounds (R z) z.requires.0).few) }
+
+pub returns : goal.returns
+unfolding handed_back held_of limit
+returns c = rw (c.backward-run.ensures.0, c.zero_filled-back.ensures)

@@ -1,0 +1,16 @@
+use mathlib.Core.Path.{refl}
+use Prim.Native.Nat.{◌-◌}
+use native.Mathlib.Omega.{arith}
+use borrow.Author.Rules.{rules}
+use Rattle.lsh.specs.Tabulate.{at}
+use Rattle.lsh.specs.Word.{xor}
+use Rattle.lsh.specs.WordSize.{lsh256}
+use Rattle.lsh.specs.Step.{add_message}
+use Rattle.loops.proofs.Places.{Placed, placed-none, filled_more, filled-all}
+use Rattle.steps256.proofs.add_message.Given as goal
+
+abbrev pub invariant-loop-l : goal.invariant-loop-l
+invariant-loop-l l = Placed 16 (λ k. k) (λ k. xor 32 (at l.t k) (at l.m k)) l.initial.r l.r l.l
+
+abbrev pub decreases-loop-l : goal.decreases-loop-l
+decreases-loop-l l = 16 - l.l

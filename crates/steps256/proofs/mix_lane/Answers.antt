@@ -1,0 +1,8 @@
+use borrow.Author.Rules.{rules}
+use Rattle.lsh.specs.WordSize.{lsh256}
+use Rattle.lsh.specs.Lane.{mix_lane}
+use Rattle.steps256.proofs.mix_lane.Goals as goal
+
+pub returns : goal.returns
+unfolding mix_lane lsh256
+returns c = rw (c.rotate_left-2.ensures, c.add-3.ensures, c.rotate_left-y1.ensures, c.add-2.ensures, c.exclusive_or-x1.ensures, c.rotate_left.ensures, c.add.ensures)

@@ -1,0 +1,14 @@
+use mathlib.Core.Path.{refl}
+use Prim.Native.Nat.{◌-◌}
+use native.Mathlib.Omega.{arith}
+use Rattle.lsh.specs.WordSize.{lsh512, alpha, beta, gamma}
+use Rattle.lsh.specs.Step.{mix, mixed_lane}
+use Rattle.lsh.proofs.Figures.{amounts512}
+use Rattle.loops.proofs.Lanes.{Laned, laned-none, laned-more, laned-all, mixed-is}
+use Rattle.steps512.proofs.mix.Given as goal
+
+abbrev pub invariant-loop-l : goal.invariant-loop-l
+invariant-loop-l l = Laned (mixed_lane lsh512 l.j l.t) l.r l.l
+
+abbrev pub decreases-loop-l : goal.decreases-loop-l
+decreases-loop-l l = 8 - l.l

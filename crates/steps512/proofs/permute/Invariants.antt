@@ -1,0 +1,15 @@
+use mathlib.Core.Path.{refl}
+use Prim.Native.Nat.{◌-◌}
+use native.Mathlib.Omega.{arith}
+use Rattle.lsh.specs.Tabulate.{at}
+use Rattle.lsh.specs.WordSize.{sigma}
+use Rattle.lsh.specs.Step.{permute}
+use Rattle.lsh.proofs.Permutation.{sigma-permutes}
+use Rattle.loops.proofs.Places.{Placed, placed-none, filled_more, filled-all}
+use Rattle.steps512.proofs.permute.Given as goal
+
+abbrev pub invariant-loop-l : goal.invariant-loop-l
+invariant-loop-l l = Placed 16 (λ k. k) (λ k. at l.t (at Rattle.lsh.specs.WordSize.sigma k)) l.initial.r l.r l.l
+
+abbrev pub decreases-loop-l : goal.decreases-loop-l
+decreases-loop-l l = 16 - l.l

@@ -1,0 +1,15 @@
+use mathlib.Core.Path.{refl}
+use Prim.Native.Nat.{◌-◌}
+use native.Mathlib.Omega.{arith}
+use Rattle.lsh.specs.Tabulate.{at}
+use Rattle.lsh.specs.WordSize.{sigma}
+use Rattle.lsh.specs.Step.{unpermute}
+use Rattle.lsh.proofs.Permutation.{sigma-permutes}
+use Rattle.loops.proofs.Places.{Placed, placed-none, scattered-more, scattered-all}
+use Rattle.steps512.proofs.unpermute.Given as goal
+
+abbrev pub invariant-loop-l : goal.invariant-loop-l
+invariant-loop-l l = Placed 16 (at Rattle.lsh.specs.WordSize.sigma) (at l.t) l.initial.r l.r l.l
+
+abbrev pub decreases-loop-l : goal.decreases-loop-l
+decreases-loop-l l = 16 - l.l

@@ -1,0 +1,12 @@
+use mathlib.Core.Path.{refl}
+use Prim.Native.Nat.{◌+◌, ◌-◌}
+use native.Mathlib.Omega.{arith}
+use Rattle.loops.proofs.Places.{Placed, placed-none, placed-more, stored-all}
+use Rattle.text.specs.Printed.{digit_at, digits_of}
+use Rattle.text.proofs.put_digits.Given as goal
+
+abbrev pub invariant-loop-k : goal.invariant-loop-k
+invariant-loop-k l = Placed l.n (λ j. l.from + j) (digit_at l.bytes) l.initial.output l.output l.k
+
+abbrev pub decreases-loop-k : goal.decreases-loop-k
+decreases-loop-k l = l.n - l.k
