@@ -50,7 +50,7 @@ loop-i-preserved c = let i : ℕ = c.loop-i.i in
     let now : c.args.steps - i ≡ j + 1 = omega arith in
     let then : c.args.steps - (i + 1) ≡ j = omega arith in
     let back : c.args.steps - i + 1 ≡ j + 1 + 1 = omega arith in (
-      kept_more (next_sub_message lsh256 (row c.loop-i.m-1 (c.args.n + i + 1)) (row c.loop-i.m-1 (c.args.n + i))) (c.args.n + i + 2) c.loop-i.invariant.0 c.expand_row.ensures (length-next lsh256 _ _) (omega arith) (omega arith),
+      kept_more (next_sub_message lsh256 (row c.loop-i.m (c.args.n + i + 1)) (row c.loop-i.m (c.args.n + i))) (c.args.n + i + 2) c.loop-i.invariant.0 c.expand_row.ensures (length-next lsh256 _ _) (omega arith) (omega arith),
       λ b e.
           unstepped-from j c.loop-i.r (half-kept c.requires.3 c.requires.4 (omega arith) e c.loop-i.invariant.0) (omega arith) then
           (ap (λ (l : ℕ). unsteps lsh256 b l c.loop-i.r) (sym now) ∙ c.loop-i.invariant.1 b e)

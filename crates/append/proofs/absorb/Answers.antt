@@ -9,11 +9,12 @@ use Rattle.runs.proofs.Rest.{inside, rest-is, rest-short}
 use Rattle.orders.specs.Record.{held_of}
 use Rattle.limits.proofs.Limits.{block-most}
 use Rattle.append.proofs.absorb.Goals as goal
+use Rattle.append.proofs.absorb.Goals.{After-block_bytes, Start}
 
-piece-fits : (c : goal.Start) → Fits w64 (length c.args.piece.now)
+piece-fits : (c : Start) → Fits w64 (length c.args.piece.now)
 piece-fits c = search rules
 
-blocks-in : (c : goal.After-block_bytes) → c.forward-run.result.count * c.block_bytes.result ≤ length c.args.piece.now
+blocks-in : (c : After-block_bytes) → c.forward-run.result.count * c.block_bytes.result ≤ length c.args.piece.now
 blocks-in c = inside _ c.args.piece.now c.forward-run.ensures.1 c.block_bytes.ensures
 
 pub overflow_mul-at : goal.overflow_mul-at

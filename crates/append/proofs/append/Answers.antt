@@ -11,16 +11,17 @@ use Rattle.orders.proofs.Sound.{Sound, sounds}
 use Rattle.orders.proofs.InTurn.{turn-refused, turn-passed, in-turn}
 use Rattle.orders.specs.Append.{append_call}
 use Rattle.append.proofs.append.Goals as goal
+use Rattle.append.proofs.append.Goals.{Else-a-ne0, Else-total-piece}
 
 -- the call is in turn
-turn_is : (c : goal.Else-a-ne0) → (sound c.args.r ≡ true) × (is_begun c.args.r ≡ false)
+turn_is : (c : Else-a-ne0) → (sound c.args.r ≡ true) × (is_begun c.args.r ≡ false)
 turn_is c = turn-passed _ c.is_begun.ensures c.turn-a.ensures c.if-a-ne0.false
 
-is-sound : (c : goal.Else-a-ne0) → Sound c.args.r
+is-sound : (c : Else-a-ne0) → Sound c.args.r
 is-sound c = sounds c.args.r (turn_is c).0
 
 -- the piece does not pass the limit
-within : (c : goal.Else-total-piece) → c.args.r.total + length c.args.piece.now ≤ limit
+within : (c : Else-total-piece) → c.args.r.total + length c.args.piece.now ≤ limit
 unfolding limit
 within c = omega (arith, (is-sound c.before).few, c.if-total-piece.false)
 

@@ -18,9 +18,10 @@ use Rattle.orders.proofs.Sound.{Sound, sounds, chain-is}
 use Rattle.orders.proofs.Held.{fill-lt}
 use Rattle.append.proofs.Appending.{room, first_block, filled}
 use Rattle.append.proofs.append_long.Goals as goal
+use Rattle.append.proofs.append_long.Goals.{After-held_length-at, After-with_part-first, Start}
 
 -- at the entry
-module _ (z : goal.Start) where
+module _ (z : Start) where
   abbrev R : Record
   R = z.args.r
 
@@ -43,8 +44,8 @@ module _ (z : goal.Start) where
   room-le = omega (arith, z.requires.2)
 
 -- once the size of a block and the place are known
-module _ (c : goal.After-held_length-at) where
-  abbrev Z : goal.Start
+module _ (c : After-held_length-at) where
+  abbrev Z : Start
   Z = c.before.before.before.before.before
 
   abbrev k : ℕ
@@ -59,14 +60,14 @@ module _ (c : goal.After-held_length-at) where
   filling : length (take k (P Z)) ≡ k
   filling = length-take-le k (P Z) (omega (arith, Z.requires.2))
 
-block_in : (c : goal.After-with_part-first) → c.block_bytes-size.result ≤ length c.with_part-first.result
+block_in : (c : After-with_part-first) → c.block_bytes-size.result ≤ length c.with_part-first.result
 block_in c = omega (arith, first-long c, size-most c.before.before)
 
 pub absorb-t-requires : goal.absorb-t-requires
 absorb-t-requires c = let z = Z c.before.before.before.before.before.before in (
   (is-sound z).word,
   subst (Chain (size_of (R z).w)) (sym c.forward-begun.ensures.0)
-      (forwards-chain (size_of (R z).w) (amounts (R z).w) _ (R z).chain (chain z)),
+      (forwards-chain (size_of (R z).w) (amounts (R z).w) _ (R z).chain-1 (chain z)),
 )
 
 pub overflow_add-r : goal.overflow_add-r

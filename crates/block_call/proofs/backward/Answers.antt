@@ -6,13 +6,14 @@ use Rattle.answers.proofs.Output.{refused-output}
 use Rattle.blocks.specs.BlockCall.{block_answer, run_bytes}
 use Rattle.blocks.proofs.Answers.{accepted, one-run}
 use Rattle.block_call.proofs.backward.Goals as goal
+use Rattle.block_call.proofs.backward.Goals.{Else-a-ne0}
 
-took : (c : goal.Else-a-ne0) → block_answer c.args.w (length c.args.chain-1.now) (length c.args.block.now) ≡ 0
+took : (c : Else-a-ne0) → block_answer c.args.w (length c.args.chain.now) (length c.args.block.now) ≡ 0
 took c = sym c.answer-a.ensures ∙ c.if-a-ne0.false
 
 pub returns-then-a-ne0 : goal.returns-then-a-ne0
 unfolding run_bytes backward backwards
-returns-then-a-ne0 c = refused-output _ _ _ c.args.chain-1.now c.answer-a.ensures c.if-a-ne0.true
+returns-then-a-ne0 c = refused-output _ _ _ c.args.chain.now c.answer-a.ensures c.if-a-ne0.true
 
 pub backward_bytes-requires : goal.backward_bytes-requires
 unfolding run_bytes backward backwards

@@ -13,19 +13,20 @@ use Rattle.receipts.specs.Receipt.{receipt}
 use Rattle.receipts.specs.Close.{close_output}
 use Rattle.receipts.proofs.CloseAnswers.{Accepted, accepted}
 use Rattle.close.proofs.close.Goals as goal
+use Rattle.close.proofs.close.Goals.{Else-a-ne0, Start}
 
 -- the entry of the call
-abbrev start : goal.Else-a-ne0 → goal.Start
+abbrev start : Else-a-ne0 → Start
 start c = c.before.before.before
 
 -- the call is accepted
-passed : (c : goal.Else-a-ne0)
-    → Accepted (start c).args.r (start c).args.last (start c).args.e (length (start c).args.output-1.now)
+passed : (c : Else-a-ne0)
+    → Accepted (start c).args.r (start c).args.last (start c).args.e (length (start c).args.output.now)
 passed c =
     let a = (start c).args in
     accepted a.r a.last a.e (length a.output-1.now) (sym c.answer-a.ensures ∙ c.if-a-ne0.false)
 
-is-sound : (c : goal.Else-a-ne0) → Sound (start c).args.r
+is-sound : (c : Else-a-ne0) → Sound (start c).args.r
 is-sound c = sounds (start c).args.r (passed c).sound_record
 
 pub write_receipt-requires : goal.write_receipt-requires
@@ -39,14 +40,14 @@ unfolding close_output
 returns c = let p = c.before.before.before.before.before.before in
     let z = start p in
     let r = z.args.r in
-    written-output _ _ _ z.args.output-1.now
+    written-output _ _ _ z.args.output.now
     (sym p.answer-a.ensures ∙ p.if-a-ne0.false)
     (ap (λ (d : List Bool). receipt r.w r.n d (8 * r.total + z.args.e)) c.final_chain-t.ensures.1)
     c.write_receipt.ensures
 
 pub returns-then-a-ne0 : goal.returns-then-a-ne0
 unfolding limit close_output
-returns-then-a-ne0 c = refused-output _ _ _ c.args.output-1.now c.answer-a.ensures c.if-a-ne0.true
+returns-then-a-ne0 c = refused-output _ _ _ c.args.output.now c.answer-a.ensures c.if-a-ne0.true
 
 pub overflow_mul-bits : goal.overflow_mul-bits
 unfolding limit close_output

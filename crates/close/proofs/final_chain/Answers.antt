@@ -13,17 +13,18 @@ use Rattle.finalization.proofs.MessageChain.{run-chain}
 use Rattle.close.proofs.HeldBytes.{chain-sound, held-short}
 use Rattle.close.proofs.Closed.{closed_is}
 use Rattle.close.proofs.final_chain.Goals as goal
+use Rattle.close.proofs.final_chain.Goals.{Start}
 
-long : (z : goal.Start) → length z.args.r.held-1 ≡ longest_block
+long : (z : Start) → length z.args.r.held ≡ longest_block
 long z = search rules
 
-in_held : (z : goal.Start) {k : ℕ} → k ≡ held_length z.args.r.w z.args.r.total → k ≤ length z.args.r.held-1
+in_held : (z : Start) {k : ℕ} → k ≡ held_length z.args.r.w z.args.r.total → k ≤ length z.args.r.held
 in_held z = fill-in z.args.r (long z)
 
-words : (z : goal.Start) → length z.args.r.chain-1 ≡ 16
+words : (z : Start) → length z.args.r.chain ≡ 16
 words z = search rules
 
-fits : (z : goal.Start) (i : ℕ) → Fits w8 (get_or z.args.r.held-1 i 0)
+fits : (z : Start) (i : ℕ) → Fits w8 (get_or z.args.r.held i 0)
 fits z i = search rules
 
 pub slice_bounds-held-end : goal.slice_bounds-held-end
@@ -32,7 +33,7 @@ slice_bounds-held-end c = in_held c.before.before.before.before c.held_length-at
 
 pub slice_bounds-last_chain-end : goal.slice_bounds-last_chain-end
 unfolding held_bytes
-slice_bounds-last_chain-end c = sym (length-take-le _ c.args.r.held-1 (in_held c.before.before.before.before.before c.held_length-at.ensures))
+slice_bounds-last_chain-end c = sym (length-take-le _ c.args.r.held (in_held c.before.before.before.before.before c.held_length-at.ensures))
 
 pub last_chain-requires : goal.last_chain-requires
 unfolding held_bytes

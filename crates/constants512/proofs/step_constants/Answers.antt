@@ -13,7 +13,7 @@ loop-j-init c = worked-none lsh512 _ _ refl refl
 
 pub put_row-requires : goal.put_row-requires
 unfolding lsh512
-put_row-requires c = let e : length c.loop-j.sc-1 ≡ lsh512.steps * 8 = search rules in omega arith
+put_row-requires c = let e : length c.loop-j.sc ≡ lsh512.steps * 8 = search rules in omega arith
 
 pub loop-j-preserved : goal.loop-j-preserved
 unfolding lsh512

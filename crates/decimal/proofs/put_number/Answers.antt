@@ -9,9 +9,10 @@ use Rattle.io.specs.Digits.{last_digits, IsDigitCount}
 use Rattle.decimal.specs.Number.{most_digits}
 use Rattle.decimal.proofs.Digits.{fewest-most}
 use Rattle.decimal.proofs.put_number.Goals as goal
+use Rattle.decimal.proofs.put_number.Goals.{After-decimal-k}
 
 -- a number of 64 bits has few digits
-few : (c : goal.After-decimal-k) → c.decimal-k.result ≤ most_digits
+few : (c : After-decimal-k) → c.decimal-k.result ≤ most_digits
 few c =
     fewest-most 10 1 c.args.x c.decimal-k.result most_digits (lit< tt) (lit≤ tt)
     (lt_of_lt_of_le c.ranges.x.fits (lit≤ tt))
@@ -25,5 +26,5 @@ returns c = let d = c.before.before.before in
     let size : c.put.result - d.args.from ≡ d.decimal-k.result = omega (arith, c.put.ensures.0, d.decimal-k.ensures.0.1) in (
       omega (arith, few d, d.decimal-k.ensures.0.1, c.put.ensures.0),
       subst (IsDigitCount 10 1 d.args.x) (sym size) d.decimal-k.ensures.1.0,
-      c.put.ensures.1 ∙ ap (sets d.args.output-1.now d.args.from) (d.decimal-k.ensures.1.1 ∙ ap (λ (k : ℕ). last_digits 10 k d.args.x) (sym size)),
+      c.put.ensures.1 ∙ ap (sets d.args.output.now d.args.from) (d.decimal-k.ensures.1.1 ∙ ap (λ (k : ℕ). last_digits 10 k d.args.x) (sym size)),
     )

@@ -8,9 +8,10 @@ use Rattle.lsh.specs.WordSize.{chain_bytes, block_bytes}
 use Rattle.limits.proofs.Limits.{block-most}
 use Rattle.receipts.proofs.FinalBytes.{words-chain, front-is-final}
 use Rattle.finalization.proofs.final_bytes.Goals as goal
+use Rattle.finalization.proofs.final_bytes.Goals.{After-chain_bytes-size}
 
 -- the bytes of a chain fit
-room : (c : goal.After-chain_bytes-size) → c.chain_bytes-size.result ≤ length c.zero_bytes-s.result
+room : (c : After-chain_bytes-size) → c.chain_bytes-size.result ≤ length c.zero_bytes-s.result
 unfolding chain_bytes block_bytes
 room c =
     rw (c.chain_bytes-size.ensures, c.zero_bytes-s.ensures, length-replicate) (omega (arith, block-most c.args.w))

@@ -6,8 +6,9 @@ use borrow.Author.Rules.{rules}
 use Rattle.runs.proofs.Rest.{inside, rest-short}
 use Rattle.finalization.proofs.MessageChain.{run-chain, last-run}
 use Rattle.finalization.proofs.message_chain.Goals as goal
+use Rattle.finalization.proofs.message_chain.Goals.{After-struct_known-1}
 
-blocks-in : (c : goal.After-struct_known-1) → c.forward-run.result.count * c.block_bytes.result ≤ length c.args.message.now
+blocks-in : (c : After-struct_known-1) → c.forward-run.result.count * c.block_bytes.result ≤ length c.args.message.now
 blocks-in c = inside _ c.args.message.now c.forward-run.ensures.1 c.block_bytes.ensures
 
 pub overflow_mul-whole : goal.overflow_mul-whole

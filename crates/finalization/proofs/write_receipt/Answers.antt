@@ -10,40 +10,41 @@ use Rattle.limits.specs.Limits.{longest_block, longest_digest}
 use Rattle.receipts.specs.Receipt.{receipt_bytes}
 use Rattle.receipts.proofs.Receipts.{written}
 use Rattle.finalization.proofs.write_receipt.Goals as goal
+use Rattle.finalization.proofs.write_receipt.Goals.{After-fill, After-put, After-put-arg-1, Start}
 
 -- n is a digest's length of some word size
-few : (z : goal.Start) → z.args.n ≤ longest_digest 64
+few : (z : Start) → z.args.n ≤ longest_digest 64
 few z = omega (arith, word-most z.args.w z.requires.0)
 
-inside : (c : goal.After-put-arg-1) → (c.args.n + 7) / 8 ≤ length c.digest_bytes-bytes.result
+inside : (c : After-put-arg-1) → (c.args.n + 7) / 8 ≤ length c.digest_bytes-bytes.result
 inside c =
     let long : length c.digest_bytes-bytes.result ≡ longest_block = search rules in
     omega (arith, few c.before.before.before.before.before.before.before)
 
-digest-size : (c : goal.After-put-arg-1)
+digest-size : (c : After-put-arg-1)
     → length (take ((c.args.n + 7) / 8) c.digest_bytes-bytes.result)
     ≡ (c.args.n + 7) / 8
 digest-size c = length-take-le _ _ (inside c)
 
 -- zeros in the places of a receipt
-cleared : (c : goal.After-fill)
-    → c.fill.new.0 ++ drop receipt_bytes c.args.output-1.now
-    ≡ replicate receipt_bytes 0 ++ drop receipt_bytes c.args.output-1.now
+cleared : (c : After-fill)
+    → c.fill.new.0 ++ drop receipt_bytes c.args.output.now
+    ≡ replicate receipt_bytes 0 ++ drop receipt_bytes c.args.output.now
 unfolding receipt_bytes
 cleared c =
-    let m = c.args.output-1.now in
+    let m = c.args.output.now in
     ap (λ (s : List ℕ). s ++ drop receipt_bytes m) (c.fill.ensures ∙ ap (λ (k : ℕ). replicate {A = ℕ} k 0) (length-take-le receipt_bytes m c.requires.3))
 
 -- the output is as long as it was
-same_length : (c : goal.After-fill)
-    → length (c.fill.new.0 ++ drop receipt_bytes c.args.output-1.now) ≡ length c.args.output-1.now
+same_length : (c : After-fill)
+    → length (c.fill.new.0 ++ drop receipt_bytes c.args.output.now) ≡ length c.args.output.now
 same_length c =
-    let m = c.args.output-1.now in
+    let m = c.args.output.now in
     ap length (cleared c)
     ∙ length-append (replicate receipt_bytes 0) (drop receipt_bytes m)
     ∙ omega (arith, length-replicate {A = ℕ} receipt_bytes 0, length-drop receipt_bytes m, c.requires.3)
 
-stored : (c : goal.After-put) → length c.put.new.0 ≡ length c.args.output-1.now
+stored : (c : After-put) → length c.put.new.0 ≡ length c.args.output.now
 unfolding receipt_bytes
 stored c = ap length c.put.ensures.1 ∙ simp (length-sets, length-set) (same_length c.before.before.before.before.before)
 
@@ -57,7 +58,7 @@ slice_bounds-fill-end c = c.requires.3
 
 pub slice_bounds-fill-end-2 : goal.slice_bounds-fill-end-2
 unfolding receipt_bytes
-slice_bounds-fill-end-2 c = sym (length-take-le receipt_bytes c.args.output-1.now c.requires.3)
+slice_bounds-fill-end-2 c = sym (length-take-le receipt_bytes c.args.output.now c.requires.3)
 
 pub overflow_cast-output : goal.overflow_cast-output
 unfolding receipt_bytes
@@ -102,4 +103,4 @@ shape_of-output c = omega (arith, stored c.before.before.before.before.before.be
 pub returns : goal.returns
 unfolding receipt_bytes
 returns c = let e = c.before.before.before.before.before in
-    written _ _ _ e.requires.0 e.requires.1 _ e.args.output-1.now (cleared e) e.digest_bytes-bytes.ensures c.put.ensures.1 c.store.ensures
+    written _ _ _ e.requires.0 e.requires.1 _ e.args.output.now (cleared e) e.digest_bytes-bytes.ensures c.put.ensures.1 c.store.ensures

@@ -12,13 +12,14 @@ use Rattle.limits.specs.Limits.{longest_block}
 use Rattle.limits.proofs.Limits.{block-most}
 use Rattle.tags.proofs.Keys.{xored-front}
 use Rattle.hmac.proofs.key_chain.Goals as goal
+use Rattle.hmac.proofs.key_chain.Goals.{Start}
 
-long : (z : goal.Start) → length z.args.block ≡ longest_block
+long : (z : Start) → length z.args.block ≡ longest_block
 long z = search rules
 
 -- a block fits into the array
 pub slice_bounds-b-end : goal.slice_bounds-b-end
-slice_bounds-b-end c = let long : length c.xor_each-b.result-1 ≡ longest_block = search rules in
+slice_bounds-b-end c = let long : length c.xor_each-b.result ≡ longest_block = search rules in
     omega (arith, c.block_bytes-size.ensures, block-most c.args.w)
 
 pub slice_bounds-forward-end : goal.slice_bounds-forward-end

@@ -13,8 +13,9 @@ use Rattle.loops.proofs.Places.{Placed, placed-none, filled_more, filled-all}
 use Rattle.limits.specs.Limits.{longest_block}
 use Rattle.tags.specs.Hmac.{xor_each}
 use Rattle.hmac.proofs.xor_each.Goals as goal
+use Rattle.hmac.proofs.xor_each.Goals.{Start}
 
-fits : (z : goal.Start invariant-loop decreases-loop) (i : ℕ) → Fits w8 (get_or z.args.block i 0)
+fits : (z : Start invariant-loop decreases-loop) (i : ℕ) → Fits w8 (get_or z.args.block i 0)
 fits z i = search rules
 
 pub loop-i-init : goal.loop-i-init

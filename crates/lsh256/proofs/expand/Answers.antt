@@ -13,7 +13,7 @@ use Rattle.lsh256.proofs.expand.Goals as goal
 pub loop-j-init : goal.loop-j-init
 unfolding lsh256 expanded_words
 loop-j-init c = let given = c.requires.0 in
-    let first = expanded-none lsh256 c.args.m-1.now given (omega arith) in
+    let first = expanded-none lsh256 c.args.m.now given (omega arith) in
     (first, c.sub_message-p.ensures ∙ first.rows 1 (omega arith), c.sub_message-q.ensures ∙ first.rows 0 (omega arith), given)
 
 -- a turn puts the next sub-message into its row

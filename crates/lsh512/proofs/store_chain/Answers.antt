@@ -12,7 +12,7 @@ loop-l-init c = (stored-none 8 _ _ c.requires, c.requires)
 
 pub store-requires : goal.store-requires
 unfolding lsh512 word_bytes chain_bytes
-store-requires c = let e : length c.loop-l.d-1 ≡ chain_bytes lsh512 = c.loop-l.invariant.0.len in omega arith
+store-requires c = let e : length c.loop-l.d ≡ chain_bytes lsh512 = c.loop-l.invariant.0.len in omega arith
 
 pub loop-l-preserved : goal.loop-l-preserved
 unfolding lsh512 word_bytes chain_bytes

@@ -5,9 +5,10 @@ use Rattle.groups.specs.GroupStep.{mix_pair}
 use Rattle.mix256.specs.Amounts.{beta_gamma}
 use Rattle.mix256.proofs.Amounts.{Shifts, shifts-are, sums-below, beta-gamma-less, beta-gamma-is}
 use Rattle.mix256.proofs.mix_pair.Goals as goal
+use Rattle.mix256.proofs.mix_pair.Goals.{Start}
 
 -- the shifts are those of the step
-module _ (z : goal.Start) where
+module _ (z : Start) where
   k : Shifts z.args.j z.args.t3
   k = shifts-are z.args.j z.requires.2
 

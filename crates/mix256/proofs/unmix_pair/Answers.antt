@@ -7,9 +7,10 @@ use Rattle.groups.specs.GroupStep.{unmix_pair}
 use Rattle.mix256.specs.Amounts.{remaining}
 use Rattle.mix256.proofs.Amounts.{Shifts, shifts-are, turn-back, remaining-less, remaining-is}
 use Rattle.mix256.proofs.unmix_pair.Goals as goal
+use Rattle.mix256.proofs.unmix_pair.Goals.{Start}
 
 -- the shifts are those of the step
-module _ (z : goal.Start) where
+module _ (z : Start) where
   k : Shifts z.args.j z.args.t3
   k = shifts-are z.args.j z.requires.2
 

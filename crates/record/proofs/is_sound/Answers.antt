@@ -8,24 +8,25 @@ use Rattle.limits.specs.Limits.{is_digest_length, limit}
 use Rattle.orders.specs.declared.Record.{Record}
 use Rattle.orders.specs.Record.{sound}
 use Rattle.record.proofs.is_sound.Goals as goal
+use Rattle.record.proofs.is_sound.Goals.{Else-not-is_digest_length, Else-not-is_word_size}
 
 -- what each test that was passed says
-word-passed : (c : goal.Else-not-is_word_size) → is_word_size c.args.r.w ≡ true
-word-passed c = sym c.is_word_size.ensures ∙ not-false _ c.if-not-is_word_size.false
+word-passed : (c : Else-not-is_word_size) → is_word_size c.args.r.w ≡ true
+word-passed c = sym c.is_word_size.ensures ∙ c.if-not-is_word_size.false
 
-digest-passed : (c : goal.Else-not-is_digest_length)
+digest-passed : (c : Else-not-is_digest_length)
     → is_digest_length c.args.r.w c.args.r.n ≡ true
-digest-passed c = sym c.is_digest_length.ensures ∙ not-false _ c.if-not-is_digest_length.false
+digest-passed c = sym c.is_digest_length.ensures ∙ c.if-not-is_digest_length.false
 
 pub returns-then-not-is_word_size : goal.returns-then-not-is_word_size
 unfolding sound
-returns-then-not-is_word_size c = let f : is_word_size c.args.r.w ≡ false = sym c.is_word_size.ensures ∙ not-true _ c.if-not-is_word_size.true in
+returns-then-not-is_word_size c = let f : is_word_size c.args.r.w ≡ false = sym c.is_word_size.ensures ∙ c.if-not-is_word_size.true in
     rw f
 
 pub returns-then-not-is_digest_length : goal.returns-then-not-is_digest_length
 unfolding sound
 returns-then-not-is_digest_length c = let r : Record = c.args.r in
-    let f : is_digest_length r.w r.n ≡ false = sym c.is_digest_length.ensures ∙ not-true _ c.if-not-is_digest_length.true in
+    let f : is_digest_length r.w r.n ≡ false = sym c.is_digest_length.ensures ∙ c.if-not-is_digest_length.true in
     rw (word-passed c.before.before, f)
 
 pub returns-then-total : goal.returns-then-total

@@ -5,13 +5,14 @@ use borrow.Author.Tests.{not-true, not-false}
 use Rattle.orders.specs.Record.{sound}
 use Rattle.orders.specs.Turn.{turn_answer}
 use Rattle.record.proofs.turn.Goals as goal
+use Rattle.record.proofs.turn.Goals.{Else-not-is_sound}
 
-sound-is : (c : goal.Else-not-is_sound) → sound c.args.r ≡ true
-sound-is c = sym c.is_sound.ensures ∙ not-false _ c.if-not-is_sound.false
+sound-is : (c : Else-not-is_sound) → sound c.args.r ≡ true
+sound-is c = sym c.is_sound.ensures ∙ c.if-not-is_sound.false
 
 pub returns-then-not-is_sound : goal.returns-then-not-is_sound
 unfolding turn_answer
-returns-then-not-is_sound c = rw (sym c.is_sound.ensures ∙ not-true _ c.if-not-is_sound.true)
+returns-then-not-is_sound c = rw (sym c.is_sound.ensures ∙ c.if-not-is_sound.true)
 
 pub returns-then-out : goal.returns-then-out
 unfolding turn_answer

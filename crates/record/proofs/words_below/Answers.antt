@@ -12,8 +12,9 @@ use Rattle.lsh.proofs.Figures.{by_size}
 use Rattle.lists.specs.Lists.{all_below}
 use Rattle.lists.proofs.Lists.{below_at, all-below}
 use Rattle.record.proofs.words_below.Goals as goal
+use Rattle.record.proofs.words_below.Goals.{Then-w-eq64}
 
-fits : (c : goal.Then-w-eq64 invariant-loop decreases-loop) (i : ℕ) → Fits w64 (get_or c.args.chain i 0)
+fits : (c : Then-w-eq64 invariant-loop decreases-loop) (i : ℕ) → Fits w64 (get_or c.args.chain i 0)
 fits c i = search rules
 
 pub returns-then-c-i : goal.returns-then-c-i

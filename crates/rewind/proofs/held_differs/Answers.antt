@@ -12,8 +12,9 @@ use Rattle.orders.specs.Record.{held_length, held_bytes}
 use Rattle.orders.proofs.Held.{fill-in}
 use Rattle.orders.specs.Rewind.{held_differs}
 use Rattle.rewind.proofs.held_differs.Goals as goal
+use Rattle.rewind.proofs.held_differs.Goals.{Start}
 
-module _ (z : goal.Start) where
+module _ (z : Start) where
   abbrev R : Record
   R = z.args.r
 
@@ -39,7 +40,7 @@ slice_bounds-held-end c = in_held c.before.before.before.before c.held_length-at
 
 pub slice_bounds-equal_bytes-end-2 : goal.slice_bounds-equal_bytes-end-2
 unfolding held_differs held_bytes
-slice_bounds-equal_bytes-end-2 c = let z = c.before.before.before.before.before in sym (length-take-le _ (R z).held (in_held z c.held_length-at.ensures))
+slice_bounds-equal_bytes-end-2 c = let z = c.before.before.before.before.before in sym (length-take-le _ (R z).held-1 (in_held z c.held_length-at.ensures))
 
 pub returns : goal.returns
 unfolding held_differs held_bytes

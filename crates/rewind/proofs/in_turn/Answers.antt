@@ -5,8 +5,9 @@ use borrow.Author.Rules.{rules}
 use Rattle.lsh.specs.WordSize.{size_of, block_bytes}
 use Rattle.orders.specs.Rewind.{starts_off_block, rewind_in_turn}
 use Rattle.rewind.proofs.in_turn.Goals as goal
+use Rattle.rewind.proofs.in_turn.Goals.{Else-starts_off_block}
 
-on-block : (c : goal.Else-starts_off_block) → starts_off_block (block_bytes (size_of c.args.r.w)) c.args.r.total (length c.args.h.now) ≡ false
+on-block : (c : Else-starts_off_block) → starts_off_block (block_bytes (size_of c.args.r.w)) c.args.r.total (length c.args.h.now) ≡ false
 on-block c = sym c.starts_off_block.ensures ∙ c.if-starts_off_block.false
 
 pub returns-then-starts_off_block : goal.returns-then-starts_off_block

@@ -10,8 +10,9 @@ use Rattle.orders.proofs.Sound.{Sound, sounds, chain-is}
 use Rattle.orders.specs.Rewind.{reached, rewind_in_turn}
 use Rattle.orders.proofs.Lengths.{OnBlock, on-block, keeps-few, fill-le}
 use Rattle.rewind.proofs.rewind_bytes.Goals as goal
+use Rattle.rewind.proofs.rewind_bytes.Goals.{Start}
 
-module _ (z : goal.Start) where
+module _ (z : Start) where
   abbrev R : Record
   R = z.args.r
 

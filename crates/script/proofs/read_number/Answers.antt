@@ -17,15 +17,15 @@ loop-i-init c = (zero-le, number-some c.args.word.now c.if-word-eq0.false, omega
 pub returns-then-not-is_digit : goal.returns-then-not-is_digit
 returns-then-not-is_digit c = c.no_number-then-not-is_digit.ensures
     ∙ number-other c.args.word.now c.loop-i.i c.loop-i.x c.loop-i.invariant.1 (omega arith)
-    (sym c.is_digit.ensures ∙ not-true _ c.if-not-is_digit.true)
+    (sym c.is_digit.ensures ∙ c.if-not-is_digit.true)
 
 pub digit_value-d-requires : goal.digit_value-d-requires
-digit_value-d-requires c = sym c.is_digit.ensures ∙ not-false _ c.if-not-is_digit.false
+digit_value-d-requires c = sym c.is_digit.ensures ∙ c.if-not-is_digit.false
 
 pub returns-then-d-x : goal.returns-then-d-x
 returns-then-d-x c = c.no_number-then-d-x.ensures
     ∙ number-large c.args.word.now c.loop-i.i c.loop-i.x c.loop-i.invariant.1 (omega arith)
-    (sym c.is_digit.ensures ∙ not-false _ c.if-not-is_digit.false)
+    (sym c.is_digit.ensures ∙ c.if-not-is_digit.false)
     (omega (arith, c.digit_value-d.ensures.0))
 
 pub loop-i-preserved : goal.loop-i-preserved
@@ -33,7 +33,7 @@ loop-i-preserved c = (
   omega arith,
   rw c.digit_value-d.ensures.0
       (number_more c.args.word.now c.loop-i.i c.loop-i.x c.loop-i.invariant.1 (omega arith)
-      (sym c.is_digit.ensures ∙ not-false _ c.if-not-is_digit.false)),
+      (sym c.is_digit.ensures ∙ c.if-not-is_digit.false)),
   omega arith,
 )
 

@@ -9,12 +9,13 @@ use Rattle.orders.specs.Record.{held_of, held_length, sound, is_begun}
 use Rattle.orders.proofs.InTurn.{turn-refused, turn-passed, in-turn}
 use Rattle.orders.specs.Begin.{begun, begin_call}
 use Rattle.split_rewind.proofs.begin.Goals as goal
+use Rattle.split_rewind.proofs.begin.Goals.{Else-a-ne0, Else-bytes-held_length}
 
-turn_is : (c : goal.Else-a-ne0) → (sound c.args.r ≡ true) × (is_begun c.args.r ≡ false)
+turn_is : (c : Else-a-ne0) → (sound c.args.r ≡ true) × (is_begun c.args.r ≡ false)
 turn_is c = turn-passed _ c.is_begun.ensures c.turn-a.ensures c.if-a-ne0.false
 
 -- the bytes are as many as are held
-as-held : (c : goal.Else-bytes-held_length)
+as-held : (c : Else-bytes-held_length)
     → eqb (length c.args.bytes.now) (held_length c.args.r.w c.args.r.total) ≡ true
 as-held c = eq-eqb _ _ (c.if-bytes-held_length.false ∙ c.held_length.ensures)
 

@@ -6,8 +6,9 @@ use Rattle.orders.specs.Record.{sound, is_begun}
 use Rattle.orders.proofs.InTurn.{turn-refused, turn-passed, in-turn}
 use Rattle.orders.specs.End.{end_call}
 use Rattle.split_rewind.proofs.end.Goals as goal
+use Rattle.split_rewind.proofs.end.Goals.{Else-a-ne0}
 
-turn_is : (c : goal.Else-a-ne0) → (sound c.args.r ≡ true) × (not (is_begun c.args.r) ≡ false)
+turn_is : (c : Else-a-ne0) → (sound c.args.r ≡ true) × (not (is_begun c.args.r) ≡ false)
 turn_is c = turn-passed _ (ap not c.is_begun.ensures) c.turn-a.ensures c.if-a-ne0.false
 
 pub returns-then-a-ne0 : goal.returns-then-a-ne0

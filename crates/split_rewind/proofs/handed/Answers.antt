@@ -6,8 +6,9 @@ use Rattle.orders.proofs.Sound.{sounds}
 use Rattle.orders.specs.End.{handed}
 use Rattle.orders.proofs.HandBacks.{handed-most}
 use Rattle.split_rewind.proofs.handed.Goals as goal
+use Rattle.split_rewind.proofs.handed.Goals.{Start}
 
-few : (z : goal.Start) → handed z.args.r ≤ limit
+few : (z : Start) → handed z.args.r ≤ limit
 few z = omega (arith, handed-most z.args.r z.requires.0 z.requires.1, (sounds z.args.r z.requires.0).few)
 
 pub overflow_mul-result : goal.overflow_mul-result

@@ -13,12 +13,13 @@ use Rattle.orders.proofs.Sound.{sounds}
 use Rattle.orders.specs.HandBack.{handed_back}
 use Rattle.orders.proofs.HandBacks.{a_block, second-chain}
 use Rattle.split_rewind.proofs.handed_back.Goals as goal
+use Rattle.split_rewind.proofs.handed_back.Goals.{Start}
 
-module _ (z : goal.Start) where
+module _ (z : Start) where
   abbrev R : Record
   R = z.args.r
 
-  words : length R.split.second-1 ≡ 16
+  words : length R.split.second ≡ 16
   words = search rules
 
   block : (length z.args.block.now ≡ block_bytes (size_of R.w)) × (R.split.blocks < R.total / block_bytes (size_of R.w))

@@ -4,9 +4,10 @@ use Rattle.lsh.specs.WordSize.{size_of, block_bytes}
 use Rattle.orders.specs.Rewind.{keeps_too_much}
 use Rattle.orders.specs.End.{handed, end_cut, end_in_turn}
 use Rattle.split_rewind.proofs.in_turn.Goals as goal
+use Rattle.split_rewind.proofs.in_turn.Goals.{After-keeps_too_much}
 
 -- what the test of keep says of the bytes handed back
-test-is : (c : goal.After-keeps_too_much)
+test-is : (c : After-keeps_too_much)
     → c.keeps_too_much.result ≡ keeps_too_much (block_bytes (size_of c.args.r.w)) c.args.keep (handed c.args.r)
 test-is c =
     c.keeps_too_much.ensures ∙ ap (keeps_too_much (block_bytes (size_of c.args.r.w)) c.args.keep) c.handed-size.ensures

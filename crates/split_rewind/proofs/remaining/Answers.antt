@@ -16,15 +16,16 @@ use Rattle.orders.proofs.Lengths.{keeps-few}
 use Rattle.orders.specs.End.{handed, last_bytes}
 use Rattle.orders.proofs.HandBacks.{handed-blocks, handed-most}
 use Rattle.split_rewind.proofs.remaining.Goals as goal
+use Rattle.split_rewind.proofs.remaining.Goals.{After-block_bytes-b, Start}
 
-module _ (z : goal.Start) where
+module _ (z : Start) where
   abbrev R : Record
   R = z.args.r
 
   long : length R.held-1 ≡ longest_block
   long = search rules
 
-  back_long : length R.split.back-1 ≡ longest_block
+  back_long : length R.split.back ≡ longest_block
   back_long = search rules
 
   few : (z.args.keep ≤ z.args.size) × (z.args.keep < block_bytes (size_of R.w))
@@ -44,11 +45,11 @@ module _ (z : goal.Start) where
   held_all none = omega (arith, held-length R long, few.0, z.requires.2 ∙ ap (λ (k : ℕ). k * block_bytes (size_of R.w) + held_length R.w R.total) none)
 
 -- the block handed back last
-block_in : (c : goal.After-block_bytes-b) → c.block_bytes-b.result ≤ length c.args.r.split.back-1
+block_in : (c : After-block_bytes-b) → c.block_bytes-b.result ≤ length c.args.r.split.back
 block_in c = let z = c.before.before.before.before.before.before in omega (arith, c.block_bytes-b.ensures, block-most (R z).w, back_long z)
 
-block-length : (c : goal.After-block_bytes-b) → length (take c.block_bytes-b.result c.args.r.split.back-1) ≡ c.block_bytes-b.result
-block-length c = length-take-le _ c.args.r.split.back-1 (block_in c)
+block-length : (c : After-block_bytes-b) → length (take c.block_bytes-b.result c.args.r.split.back) ≡ c.block_bytes-b.result
+block-length c = length-take-le _ c.args.r.split.back (block_in c)
 
 pub slice_bounds-held-end : goal.slice_bounds-held-end
 unfolding last_bytes held_bytes
@@ -56,7 +57,7 @@ slice_bounds-held-end c = let z = c.before.before.before.before.before.before in
 
 pub slice_bounds-cut-end : goal.slice_bounds-cut-end
 unfolding last_bytes held_bytes
-slice_bounds-cut-end c = let z = c.before.before.before.before.before.before.before in sym (length-take-le _ (R z).held (fill-in (R z) (long z) c.held_length-at.ensures))
+slice_bounds-cut-end c = let z = c.before.before.before.before.before.before.before in sym (length-take-le _ (R z).held-1 (fill-in (R z) (long z) c.held_length-at.ensures))
 
 pub cut-requires : goal.cut-requires
 unfolding last_bytes held_bytes

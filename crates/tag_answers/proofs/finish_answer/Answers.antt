@@ -6,14 +6,15 @@ use Rattle.limits.specs.Limits.{limit}
 use Rattle.orders.specs.Record.{sound}
 use Rattle.tags.specs.KeyAnswer.{is_whole_bytes, finish_answer}
 use Rattle.tag_answers.proofs.finish_answer.Goals as goal
+use Rattle.tag_answers.proofs.finish_answer.Goals.{Else-not-is_sound}
 
 -- the record is sound
-taken : (c : goal.Else-not-is_sound) → sound c.args.r ≡ true
-taken c = sym c.is_sound.ensures ∙ not-false _ c.if-not-is_sound.false
+taken : (c : Else-not-is_sound) → sound c.args.r ≡ true
+taken c = sym c.is_sound.ensures ∙ c.if-not-is_sound.false
 
 pub returns-then-not-is_sound : goal.returns-then-not-is_sound
 unfolding finish_answer is_whole_bytes limit
-returns-then-not-is_sound c = rw (sym c.is_sound.ensures ∙ not-true _ c.if-not-is_sound.true)
+returns-then-not-is_sound c = rw (sym c.is_sound.ensures ∙ c.if-not-is_sound.true)
 
 pub returns-then-r-ne0 : goal.returns-then-r-ne0
 unfolding finish_answer is_whole_bytes limit

@@ -9,27 +9,28 @@ use Rattle.limits.proofs.Limits.{block-most}
 use Rattle.tags.specs.KeyAnswer.{is_whole_bytes, key_answer}
 use Rattle.tags.proofs.Accepted.{tests-length}
 use Rattle.tag_answers.proofs.key_answer.Goals as goal
+use Rattle.tag_answers.proofs.key_answer.Goals.{Else-not-is_digest_length, Else-not-is_word_size}
 
-word : (c : goal.Else-not-is_word_size) → is_word_size c.args.w ≡ true
-word c = sym c.is_word_size.ensures ∙ not-false _ c.if-not-is_word_size.false
+word : (c : Else-not-is_word_size) → is_word_size c.args.w ≡ true
+word c = sym c.is_word_size.ensures ∙ c.if-not-is_word_size.false
 
-digest : (c : goal.Else-not-is_digest_length) → is_digest_length c.args.w c.args.n ≡ true
-digest c = sym c.is_digest_length.ensures ∙ not-false _ c.if-not-is_digest_length.false
+digest : (c : Else-not-is_digest_length) → is_digest_length c.args.w c.args.n ≡ true
+digest c = sym c.is_digest_length.ensures ∙ c.if-not-is_digest_length.false
 
 pub overflow_sub-block_bytes : goal.overflow_sub-block_bytes
 overflow_sub-block_bytes c = omega (arith, c.block_bytes.ensures, block-most c.args.w)
 
 pub returns-then-not-is_word_size : goal.returns-then-not-is_word_size
 unfolding key_answer is_whole_bytes limit
-returns-then-not-is_word_size c = rw (sym c.is_word_size.ensures ∙ not-true _ c.if-not-is_word_size.true)
+returns-then-not-is_word_size c = rw (sym c.is_word_size.ensures ∙ c.if-not-is_word_size.true)
 
 pub is_digest_length-requires : goal.is_digest_length-requires
 unfolding key_answer is_whole_bytes limit
-is_digest_length-requires c = sym c.is_word_size.ensures ∙ not-false _ c.if-not-is_word_size.false
+is_digest_length-requires c = sym c.is_word_size.ensures ∙ c.if-not-is_word_size.false
 
 pub returns-then-not-is_digest_length : goal.returns-then-not-is_digest_length
 unfolding key_answer is_whole_bytes limit
-returns-then-not-is_digest_length c = rw (word c.before.before, sym c.is_digest_length.ensures ∙ not-true _ c.if-not-is_digest_length.true)
+returns-then-not-is_digest_length c = rw (word c.before.before, sym c.is_digest_length.ensures ∙ c.if-not-is_digest_length.true)
 
 pub returns-then-n-ne0 : goal.returns-then-n-ne0
 unfolding key_answer is_whole_bytes limit

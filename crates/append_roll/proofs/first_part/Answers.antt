@@ -1,0 +1,39 @@
+use mathlib.Core.Path.{◌≡◌, sym, ap, ◌∙◌, subst}
+use native.Mathlib.Omega.{arith}
+use lib.ListN.{length}
+use borrow.Author.Rules.{rules}
+use Rattle.lsh.specs.WordSize.{size_of}
+use Rattle.lsh.specs.Block.{Chain}
+use Rattle.limits.specs.Limits.{longest_block}
+use Rattle.orders.specs.declared.Record.{Record}
+use Rattle.orders.specs.declared.Outcome.{Outcome}
+use Rattle.orders.proofs.Sound.{sounds}
+use Rattle.orders.specs.Append.{appended, append_accepted}
+use Rattle.orders.proofs.AppendedSound.{appended-chain}
+use Rattle.checkpoints.specs.Checkpoints.{inserted}
+use Rattle.roll.proofs.Walked.{traversal-count, traversal-slots}
+use Rattle.append_roll.proofs.first_part.Goals as goal
+use Rattle.append_roll.proofs.first_part.Goals.{After-accepted-o}
+
+next-is : (c : After-accepted-o) → c.accepted-o.result.next ≡ appended c.args.r c.args.part.now
+unfolding append_accepted
+next-is c = ap (λ (o : Outcome). o.next-1) c.accepted-o.ensures
+
+pub insert-known-requires : goal.insert-known-requires
+insert-known-requires c = let a = c.before.before.before in
+    let z = a.before.before.before in
+    let r = z.args.r in (
+      (sounds r z.requires.0).word,
+      subst (λ (o : Record). Chain (size_of r.w) o.chain-1) (sym (next-is a)) (appended-chain r z.requires.0 (words z) (long z) z.args.part.now),
+      z.requires.2,
+      z.requires.3,
+      omega (arith, traversal-count _ _ z.requires.3 z.requires.2, traversal-slots _ _ z.requires.3 z.requires.2, z.requires.4),
+    )
+
+pub returns : goal.returns
+returns c = let a = c.before.before.before.before.before.before in (
+  ap (λ (o : Record). o.chain-1) (next-is a),
+  ap (λ (o : Outcome). o.count) a.accepted-o.ensures,
+  λ k. c.insert-known.ensures.0 k ∙ ap (λ (o : Record). inserted (size_of a.args.r.w) (record { number = k; chain = o.chain-1 }) a.args.roll.now) (next-is a),
+  c.insert-known.ensures.1,
+)

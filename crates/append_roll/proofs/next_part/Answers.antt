@@ -1,0 +1,25 @@
+use mathlib.Core.Path.{sym, subst}
+use native.Mathlib.Nat.{div-le_self}
+use native.Mathlib.Omega.{arith}
+use lib.ListN.{length}
+use borrow.Author.Rules.{rules}
+use Rattle.lsh.specs.WordSize.{size_of, block_bytes}
+use Rattle.lsh.specs.Block.{Chain}
+use Rattle.lsh.proofs.Figures.{amounts}
+use Rattle.lsh.proofs.Blocks.{forwards-chain}
+use Rattle.limits.specs.Limits.{limit}
+use Rattle.roll.proofs.Walked.{traversal-count, traversal-slots}
+use Rattle.append_roll.proofs.next_part.Goals as goal
+
+pub overflow_add-result : goal.overflow_add-result
+unfolding limit
+overflow_add-result c = record { fits = omega (arith, c.requires.2, c.forward-run.ensures.1, div-le_self (length c.args.part.now) (block_bytes (size_of c.args.w))) }
+
+pub insert-y-requires : goal.insert-y-requires
+insert-y-requires c = (
+  c.requires.0,
+  subst (Chain (size_of c.args.w)) (sym c.forward-run.ensures.0) (forwards-chain (size_of c.args.w) (amounts c.args.w) _ c.args.p.chain c.requires.1),
+  c.requires.3,
+  c.requires.4,
+  omega (arith, traversal-count _ _ c.requires.4 c.requires.3, traversal-slots _ _ c.requires.4 c.requires.3, c.requires.5),
+)

@@ -1,0 +1,20 @@
+use mathlib.Core.Path.{◌≡◌, sym, ap, ◌∙◌}
+use mathlib.Core.Bool.{true, false}
+use mathlib.Core.List.{List}
+use Prim.Native.Nat.{ℕ, suc, ◌+◌, ◌-◌, ◌≤◌, ◌<◌}
+use native.Mathlib.Numerals.{add-one}
+use native.Mathlib.Omega.{arith}
+use Rattle.lsh.specs.Tabulate.{at}
+use Rattle.checkpoints.specs.Slots.{most_slots}
+use Rattle.checkpoints.specs.Members.{member}
+use Rattle.checkpoints.specs.FreeSlot.{first_free, free_slot}
+use Rattle.roll.specs.Traversal.{marked}
+use Rattle.roll.proofs.Walked.{unmarked, marked-is}
+use Rattle.roll.proofs.free_slot.Given as goal
+
+-- before the turn of slot i: the slots before it are linked
+abbrev pub invariant-loop-i : goal.invariant-loop-i
+invariant-loop-i l = (0 < l.i) × (l.i ≤ l.k + 1) × (l.k ≤ most_slots) × ((linked : List ℕ) → l.m ≡ marked linked → free_slot l.k linked ≡ first_free l.i (l.k + 1 - l.i) linked)
+
+abbrev pub decreases-loop-i : goal.decreases-loop-i
+decreases-loop-i l = l.k + 1 - l.i

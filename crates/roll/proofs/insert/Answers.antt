@@ -1,0 +1,106 @@
+use mathlib.Core.Path.{◌≡◌, sym, ap, ◌∙◌}
+use mathlib.Core.List.{List}
+use Prim.Native.Nat.{ℕ, ◌≤◌, ◌<◌}
+use native.Mathlib.Nat.{le_refl}
+use native.Mathlib.Omega.{arith}
+use lib.ListN.{length}
+use borrow.Author.Rules.{rules}
+use Rattle.lsh.specs.WordSize.{WordSize, size_of}
+use Rattle.lsh.proofs.Bytes.{Octets, octets}
+use Rattle.roll.specs.declared.Traversal.{Traversal}
+use Rattle.checkpoints.specs.Slots.{slot_count}
+use Rattle.checkpoints.specs.Roll.{links}
+use Rattle.checkpoints.specs.FreeSlot.{free_slot}
+use Rattle.checkpoints.specs.Checkpoints.{with_index, with_slot, lead_to, taken, inserted}
+use Rattle.roll.specs.Traversal.{traversal_of}
+use Rattle.checkpoints.proofs.Form.{Linked, linked, Sized, sized}
+use Rattle.checkpoints.proofs.Shown.{lead-in, taken-within}
+use Rattle.checkpoints.proofs.Writes.{slot-size}
+use Rattle.roll.proofs.Walked.{known, traversal-is, traversal-more}
+use Rattle.roll.proofs.insert.Goals as goal
+use Rattle.roll.proofs.insert.Goals.{After-free_slot-i, After-put_slot, Start}
+
+module _ (z : Start) where
+  abbrev Z : WordSize
+  Z = size_of z.args.w
+
+  abbrev S : List ℕ
+  S = z.args.roll.now
+
+  ok : Octets Z
+  ok = octets z.args.w
+
+  have : Linked Z S
+  have = linked Z S z.requires.2
+
+  sizes : Sized Z S
+  sizes = sized Z S have.right
+
+  traversal : z.args.y ≡ known Z ok S z.requires.2
+  traversal = z.requires.3 ∙ traversal-is Z ok S z.requires.2
+
+  slots : z.args.y.slots ≡ slot_count Z (length S)
+  slots = ap (λ (y : Traversal). y.slots) traversal
+
+  count : z.args.y.count ≡ length (links Z S)
+  count = ap (λ (y : Traversal). y.count) traversal
+
+  last : z.args.y.last ≡ lead_to Z S (length (links Z S))
+  last = ap (λ (y : Traversal). y.last) traversal
+
+  room : length (links Z S) < slot_count Z (length S)
+  room = omega (arith, z.requires.4, slots, count)
+
+  within : (0 < taken Z S) × (taken Z S ≤ slot_count Z (length S))
+  within = taken-within Z ok S z.requires.2 room (record { number = 0; chain = z.args.t }) z.requires.1
+
+free-is : (c : After-free_slot-i) → c.free_slot-i.result ≡ taken (Z c.before.before.before) (S c.before.before.before)
+unfolding taken
+free-is c =
+    let z = c.before.before.before in
+    c.free_slot-i.ensures (links (Z z) (S z)) (ap (λ (y : Traversal). y.marks-1) (traversal z)) ∙ ap (λ (k : ℕ). free_slot k (links (Z z) (S z))) (slots z)
+
+free_in : (c : After-free_slot-i) → (0 < c.free_slot-i.result) × (c.free_slot-i.result ≤ slot_count (Z c.before.before.before) (length (S c.before.before.before)))
+free_in c = rw (free-is c) (within c.before.before.before)
+
+-- the roll with the slot written is as long
+written : (c : After-put_slot) → length c.put_slot.new.1.0 ≡ length (S c.before.before.before.before.before)
+written c =
+    let f = c.before.before in
+    let z = f.before.before.before in
+    ap length c.put_slot.ensures
+    ∙ slot-size (Z z) (ok z) (slot_count (Z z) (length (S z))) (S z) (sizes z).size f.free_slot-i.result (free_in f).1 (free_in f).0 z.args.t z.requires.1
+
+pub returns : goal.returns
+returns c = let f = c.before.before in
+    let z = f.before.before.before in
+    let bytes : (k : ℕ) → c.put_index.new.1.0 ≡ inserted (Z z) (record { number = k; chain = z.args.t }) (S z) =
+    λ k. c.put_index.ensures ∙ inserted-is (Z z) (S z) z.args.t k c.put_slot.ensures (last z) (free-is f) in (
+      bytes,
+      c.with_link.ensures ∙ traversal-more (Z z) (ok z) (S z) z.requires.2 (record { number = 0; chain = z.args.t }) z.requires.1 (room z) (traversal z) (free-is f) ∙ ap (traversal_of (Z z)) (sym (bytes 0)),
+    )
+
+pub free_slot-i-requires : goal.free_slot-i-requires
+free_slot-i-requires c = let z = c.before.before in omega (arith, slots z, (sizes z).most)
+
+pub put_slot-requires : goal.put_slot-requires
+put_slot-requires c = let z = c.before.before.before.before in (z.requires.0, z.requires.1, (have z).right, (free_in c.before).0, (free_in c.before).1)
+
+pub put_index-requires : goal.put_index-requires
+put_index-requires c = let s = c.before.before.before in
+    let f = s.before.before in
+    let z = f.before.before.before in (
+      rw (written s) (have z).right,
+      omega (
+        arith,
+        last z,
+        ap (slot_count (Z z)) (written s),
+        lead-in (Z z) (ok z) (S z) z.requires.2 (length (links (Z z) (S z))) (le_refl (length (links (Z z) (S z)))),
+      ),
+      omega (arith, (free_in f).1, (sizes z).most),
+    )
+
+pub with_link-requires : goal.with_link-requires
+with_link-requires c = let f = c.before.before.before.before.before.before.before.before in
+    let z = f.before.before.before in
+    (omega (arith, (free_in f).1, (sizes z).most), omega (arith, count z, room z, (sizes z).most))

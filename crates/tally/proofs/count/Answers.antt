@@ -1,0 +1,56 @@
+use mathlib.Core.Path.{refl, sym, ap, ◌∙◌}
+use mathlib.Core.Logic.{⊎_elim}
+use Prim.Native.Nat.{◌-◌, ◌≤◌, zero-le}
+use native.Mathlib.Omega.{arith}
+use lib.ListN.{length}
+use Rattle.receipts.specs.Receipt.{receipt_bytes}
+use Rattle.receipts.specs.Kinds.{is_blank}
+use Rattle.receipts.specs.Tally.{most_receipts, receipt_count, counted}
+use Rattle.receipts.proofs.Places.{receipt-length}
+use Rattle.receipts.proofs.Counting.{Counted, counted_none, together, one_more, all_done}
+use Rattle.tally.proofs.count.Goals as goal
+
+pub checksums-sums-requires : goal.checksums-sums-requires
+unfolding most_receipts receipt_count receipt_bytes counted
+checksums-sums-requires c = c.requires.0
+
+pub loop-i-init : goal.loop-i-init
+unfolding most_receipts receipt_count receipt_bytes counted
+loop-i-init c = (zero-le, counted_none _)
+
+pub is_blank-requires : goal.is_blank-requires
+unfolding most_receipts receipt_count receipt_bytes counted
+is_blank-requires c = ap length c.receipt_at.ensures ∙ receipt-length _ _ (omega arith)
+
+pub overflow_add-blanks : goal.overflow_add-blanks
+unfolding most_receipts receipt_count receipt_bytes counted
+overflow_add-blanks c = omega (arith, together c.loop-i.invariant.1)
+
+pub came_before-requires : goal.came_before-requires
+unfolding most_receipts receipt_count receipt_bytes counted
+came_before-requires c = (omega arith, omega arith, λ j h. c.requires.1 j (omega arith), λ j h. c.checksums-sums.ensures j (omega arith))
+
+pub overflow_add-reprints : goal.overflow_add-reprints
+unfolding most_receipts receipt_count receipt_bytes counted
+overflow_add-reprints c = omega (arith, together c.loop-i.invariant.1)
+
+pub overflow_add-firsts : goal.overflow_add-firsts
+unfolding most_receipts receipt_count receipt_bytes counted
+overflow_add-firsts c = omega (arith, together c.loop-i.invariant.1)
+
+pub loop-i-preserved : goal.loop-i-preserved
+unfolding most_receipts receipt_count receipt_bytes counted
+loop-i-preserved c = let h = c.loop-i.invariant.1 in
+    let blank = sym (ap is_blank c.receipt_at.ensures) ∙ sym c.is_blank.ensures in (
+      omega arith,
+      ⊎_elim
+          (λ w. one_more h (blank ∙ w.0.taken) refl w.1 w.2 w.3)
+          (⊎_elim
+          (λ w. one_more h (blank ∙ w.0.left) (sym w.2.ensures ∙ w.3.taken) w.4 w.5 w.6)
+          (λ w. one_more h (blank ∙ w.0.left) (sym w.2.ensures ∙ w.3.left) w.4 w.5 w.6))
+          c.if-is_blank.branch,
+    )
+
+pub returns : goal.returns
+unfolding most_receipts receipt_count receipt_bytes counted
+returns c = all_done c.loop-i.invariant.1 (omega arith)

@@ -1,0 +1,37 @@
+use mathlib.Core.Path.{sym, ap, ◌∙◌}
+use Prim.Native.Nat.{◌-◌}
+use native.Mathlib.Omega.{arith}
+use lib.ListN.{length}
+use borrow.Author.Tests.{not-true, not-false}
+use Rattle.receipts.specs.Receipt.{receipt_bytes}
+use Rattle.receipts.specs.WellFormed.{well_formed}
+use Rattle.receipts.specs.Tally.{receipt_count}
+use Rattle.receipts.proofs.Places.{receipt-length}
+use Rattle.receipts.proofs.Malformed.{Searched, searched-none, malformed-here, searched-more, searched-all}
+use Rattle.tally.proofs.first_malformed.Goals as goal
+
+pub loop-i-init : goal.loop-i-init
+unfolding receipt_count receipt_bytes
+loop-i-init c = searched-none _
+
+pub receipt_at-requires : goal.receipt_at-requires
+unfolding receipt_count receipt_bytes
+receipt_at-requires c = c.loop-i-test.true
+
+pub is_well_formed-requires : goal.is_well_formed-requires
+unfolding receipt_count receipt_bytes
+is_well_formed-requires c = ap length c.receipt_at.ensures ∙ receipt-length _ _ c.loop-i-test.true
+
+pub returns-then-not-is_well_formed : goal.returns-then-not-is_well_formed
+unfolding receipt_count receipt_bytes
+returns-then-not-is_well_formed c = malformed-here _ _ c.loop-i.invariant c.loop-i-test.true
+    (sym (c.is_well_formed.ensures ∙ ap well_formed c.receipt_at.ensures) ∙ c.if-not-is_well_formed.true)
+
+pub loop-i-preserved : goal.loop-i-preserved
+unfolding receipt_count receipt_bytes
+loop-i-preserved c = searched-more _ _ c.loop-i.invariant c.loop-i-test.true
+    (sym (c.is_well_formed.ensures ∙ ap well_formed c.receipt_at.ensures) ∙ c.if-not-is_well_formed.false)
+
+pub returns : goal.returns
+unfolding receipt_count receipt_bytes
+returns c = searched-all _ _ c.loop-i.invariant c.loop-i-test.false

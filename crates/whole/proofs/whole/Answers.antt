@@ -1,0 +1,74 @@
+use mathlib.Core.Path.{sym, ◌∙◌}
+use native.Mathlib.Omega.{arith}
+use lib.ListN.{length}
+use borrow.Author.Rules.{rules}
+use Rattle.limits.specs.Limits.{limit}
+use Rattle.limits.proofs.Limits.{digest-most}
+use Rattle.finalization.proofs.MessageChain.{opened-chain, run-chain}
+use Rattle.answers.proofs.Output.{refused-output, written-output}
+use Rattle.receipts.specs.Whole.{whole_output}
+use Rattle.receipts.proofs.WholeAnswers.{Accepted, accepted, receipt-is}
+use Rattle.whole.proofs.whole.Goals as goal
+use Rattle.whole.proofs.whole.Goals.{Else-a-ne0, Start}
+
+-- the entry of the call
+abbrev start : Else-a-ne0 → Start
+start c = c.before.before.before.before
+
+-- the call is accepted
+passed : (c : Else-a-ne0)
+    → Accepted (start c).args.w (start c).args.n (length (start c).args.message.now) (start c).args.last (start c).args.e (length (start c).args.output.now)
+passed c =
+    let a = (start c).args in
+    accepted a.w a.n (length a.message.now) a.last a.e (length a.output-1.now) (sym c.answer-a.ensures ∙ c.if-a-ne0.false)
+
+pub returns-then-a-ne0 : goal.returns-then-a-ne0
+unfolding limit whole_output
+returns-then-a-ne0 c = refused-output _ _ _ c.args.output.now c.answer-a.ensures c.if-a-ne0.true
+
+pub overflow_mul-bits : goal.overflow_mul-bits
+unfolding limit whole_output
+overflow_mul-bits c = omega (arith, (passed c).within)
+
+pub overflow_add-bits : goal.overflow_add-bits
+unfolding limit whole_output
+overflow_add-bits c = omega (arith, (passed c).within, (passed c).end.extra)
+
+pub overflow_cast-e : goal.overflow_cast-e
+unfolding limit whole_output
+overflow_cast-e c = omega (arith, (passed c).end.extra)
+
+pub pad_byte-pad-requires : goal.pad_byte-pad-requires
+unfolding limit whole_output
+pad_byte-pad-requires c = ((passed c).end.extra, (passed c).end.low)
+
+pub opening-requires : goal.opening-requires
+unfolding limit whole_output
+opening-requires c = ((passed c.before).word_size, digest-most _ _ (passed c.before).digest_length)
+
+pub message_chain-t-requires : goal.message_chain-t-requires
+unfolding limit whole_output
+message_chain-t-requires c = let p = c.before.before in
+    ((passed p).word_size, opened-chain _ _ c.opening.ensures)
+
+pub write_receipt-requires : goal.write_receipt-requires
+unfolding limit whole_output
+write_receipt-requires c = let p = c.before.before.before.before in
+    let z = start p in
+    let a = passed p in
+    (a.word_size, digest-most _ _ a.digest_length, run-chain _ _ (opened-chain _ _ c.opening.ensures) c.message_chain-t.ensures, a.end.room)
+
+pub returns : goal.returns
+unfolding limit whole_output
+returns c = let p = c.before.before.before.before.before.before.before in
+    let z = start p in
+    written-output _ _ _ z.args.output.now
+    (sym p.answer-a.ensures ∙ p.if-a-ne0.false)
+    (receipt-is z.args.w z.args.n z.args.message.now z.args.last z.args.e
+    (λ i. (p.shared_slice_known-1.given i).fits)
+    z.fits.last.fits
+    (passed p).end.extra
+    (passed p).end.low
+    c.pad_byte-pad.ensures
+    (c.message_chain-t.ensures ∙ rw c.opening.ensures))
+    c.write_receipt.ensures
