@@ -19,7 +19,7 @@ blocks-in c = inside _ c.args.piece.now c.forward-run.ensures.1 c.block_bytes.en
 
 pub overflow_mul-at : goal.overflow_mul-at
 unfolding held_of
-overflow_mul-at c = record { fits = omega (arith, blocks-in c, (piece-fits c.before.before.before.before).fits) }
+overflow_mul-at c = record { fits = omega (arith, blocks-in c, (piece-fits (goal.at.overflow_mul-at c).Start).fits) }
 
 pub slice_bounds-zero_filled-count : goal.slice_bounds-zero_filled-count
 slice_bounds-zero_filled-count c = blocks-in c

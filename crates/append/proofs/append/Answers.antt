@@ -23,7 +23,7 @@ is-sound c = sounds c.args.r (turn_is c).0
 -- the piece does not pass the limit
 within : (c : Else-total-piece) → c.args.r.total + length c.args.piece.now ≤ limit
 unfolding limit
-within c = omega (arith, (is-sound c.before).few, c.if-total-piece.false)
+within c = omega (arith, (is-sound (goal.at.Else-total-piece c).Else-a-ne0).few, c.if-total-piece.false)
 
 pub overflow_sub-total : goal.overflow_sub-total
 unfolding limit
@@ -31,7 +31,7 @@ overflow_sub-total c = (is-sound c).few
 
 pub returns-then-total-piece : goal.returns-then-total-piece
 unfolding append_call limit
-returns-then-total-piece c = let e = c.before.before in
+returns-then-total-piece c = let e = (goal.at.returns-then-total-piece c).Else-a-ne0 in
     let a = e.args in
     let over : limit < a.r.total + length a.piece.now = omega (arith, (is-sound e).few, c.if-total-piece.true) in
     c.refused-then-total-piece.ensures ∙ sym (in-turn _ (turn_is e).0 _ (turn_is e).1 ∙ rw (lt-ltb _ _ over))
@@ -42,9 +42,9 @@ returns-then-a-ne0 c = c.refused.ensures ∙ turn-refused _ c.is_begun.ensures c
 
 pub accepted-requires : goal.accepted-requires
 unfolding append_call
-accepted-requires c = ((turn_is c.before).0, within c)
+accepted-requires c = ((turn_is (goal.at.accepted-requires c).Else-a-ne0).0, within c)
 
 pub returns : goal.returns
 unfolding append_call
-returns c = let e = c.before.before in
-    c.accepted.ensures ∙ sym (in-turn _ (turn_is e).0 _ (turn_is e).1 ∙ rw (le-ltb _ _ (within c.before)))
+returns c = let e = (goal.at.returns c).Else-a-ne0 in
+    c.accepted.ensures ∙ sym (in-turn _ (turn_is e).0 _ (turn_is e).1 ∙ rw (le-ltb _ _ (within (goal.at.returns c).Else-total-piece)))

@@ -31,14 +31,14 @@ module _ (z : Start) where
   is-sound : Sound R
   is-sound = sounds R z.requires.0
 
-  long : length R.held-1 ≡ longest_block
+  long : length R.held ≡ longest_block
   long = search rules
 
-  words : length R.chain-1 ≡ 16
+  words : length R.chain ≡ 16
   words = search rules
 
-  chain : Chain (size_of R.w) R.chain-1
-  chain = chain-is R.w R.chain-1 is-sound.word words is-sound.below
+  chain : Chain (size_of R.w) R.chain
+  chain = chain-is R.w R.chain is-sound.word words is-sound.below
 
   room-le : room R ≤ length P
   room-le = omega (arith, z.requires.2)
@@ -46,7 +46,7 @@ module _ (z : Start) where
 -- once the size of a block and the place are known
 module _ (c : After-held_length-at) where
   abbrev Z : Start
-  Z = c.before.before.before.before.before
+  Z = (goal.at.After-held_length-at c).Start
 
   abbrev k : ℕ
   k = c.block_bytes-size.result - c.held_length-at.result
@@ -60,23 +60,27 @@ module _ (c : After-held_length-at) where
   filling : length (take k (P Z)) ≡ k
   filling = length-take-le k (P Z) (omega (arith, Z.requires.2))
 
+-- the held bytes with the first bytes of the piece
+first-long : (c : After-with_part-first) → length c.with_part-first.result ≡ longest_block
+first-long c = search rules
+
 block_in : (c : After-with_part-first) → c.block_bytes-size.result ≤ length c.with_part-first.result
-block_in c = omega (arith, first-long c, size-most c.before.before)
+block_in c = omega (arith, first-long c, size-most (goal.at.After-with_part-first c).After-held_length-at)
 
 pub absorb-t-requires : goal.absorb-t-requires
-absorb-t-requires c = let z = Z c.before.before.before.before.before.before in (
+absorb-t-requires c = let z = Z (goal.at.absorb-t-requires c).After-held_length-at in (
   (is-sound z).word,
   subst (Chain (size_of (R z).w)) (sym c.forward-begun.ensures.0)
-      (forwards-chain (size_of (R z).w) (amounts (R z).w) _ (R z).chain-1 (chain z)),
+      (forwards-chain (size_of (R z).w) (amounts (R z).w) _ (R z).chain (chain z)),
 )
 
 pub overflow_add-r : goal.overflow_add-r
 unfolding limit
-overflow_add-r c = record { fits = omega (arith, (Z c.before.before.before.before.before.before.before.before.before.before).pre.1) }
+overflow_add-r c = record { fits = omega (arith, (Z (goal.at.overflow_add-r c).After-held_length-at).requires.1) }
 
 pub overflow_add-result : goal.overflow_add-result
 unfolding limit
-overflow_add-result c = let a = c.before.before.before.before.before.before.before.before.before.before.before in
+overflow_add-result c = let a = (goal.at.overflow_add-result c).After-held_length-at in
     let z = Z a in
     let B : ℕ = block_bytes (size_of (R z).w) in
     record {
@@ -91,7 +95,7 @@ overflow_add-result c = let a = c.before.before.before.before.before.before.befo
     }
 
 pub returns : goal.returns
-returns c = let a = c.before.before.before.before.before.before.before.before.before.before.before in
+returns c = let a = (goal.at.returns c).After-held_length-at in
     let z = Z a in
     let t = c.absorb-t in
     let f = c.forward-begun in
@@ -113,16 +117,16 @@ pub overflow_sub-room : goal.overflow_sub-room
 overflow_sub-room c = place_in c
 
 pub slice_bounds-with_part-end : goal.slice_bounds-with_part-end
-slice_bounds-with_part-end c = sym (filling c.before)
+slice_bounds-with_part-end c = sym (filling (goal.at.slice_bounds-with_part-end c).After-held_length-at)
 
 pub with_part-first-requires : goal.with_part-first-requires
-with_part-first-requires c = omega (arith, filling c.before, place_in c.before, size-most c.before)
+with_part-first-requires c = omega (arith, filling (goal.at.with_part-first-requires c).After-held_length-at, place_in (goal.at.with_part-first-requires c).After-held_length-at, size-most (goal.at.with_part-first-requires c).After-held_length-at)
 
 pub slice_bounds-first-end : goal.slice_bounds-first-end
 slice_bounds-first-end c = block_in c
 
 pub slice_bounds-forward-end : goal.slice_bounds-forward-end
-slice_bounds-forward-end c = sym (length-take-le _ c.with_part-first.result (block_in c.before))
+slice_bounds-forward-end c = sym (length-take-le _ c.with_part-first.result (block_in (goal.at.slice_bounds-forward-end c).After-with_part-first))
 
 pub forward-begun-requires : goal.forward-begun-requires
-forward-begun-requires c = let z = Z c.before.before.before in ((is-sound z).word, chain z)
+forward-begun-requires c = let z = Z (goal.at.forward-begun-requires c).After-held_length-at in ((is-sound z).word, chain z)

@@ -6,13 +6,17 @@ use Rattle.limits.specs.Limits.{longest_block, limit}
 use Rattle.limits.proofs.Limits.{block-most}
 use Rattle.append.proofs.Appending.{short}
 use Rattle.append.proofs.append_short.Goals as goal
+use Rattle.append.proofs.append_short.Goals.{Start}
+
+long : (z : Start) → length z.args.r.held ≡ longest_block
+long z = search rules
 
 pub overflow_add-r : goal.overflow_add-r
 unfolding limit
 overflow_add-r c = record { fits = omega (arith, c.requires.1) }
 
 pub returns : goal.returns
-returns c = let z = c.before.before.before.before.before in
+returns c = let z = (goal.at.returns c).Start in
     rw (c.with_part-joined.ensures, c.held_length-at.ensures) (sym (short z.args.r z.requires.0 (long z) z.args.piece.now z.requires.2))
 
 pub with_part-joined-requires : goal.with_part-joined-requires

@@ -26,7 +26,7 @@ is-sound c = sounds c.args.r (c.turn-a.ensures.0 c.if-a-ne0.false).0
 
 within : (c : Else-total-size) → c.args.r.total + c.args.size ≤ limit
 unfolding limit
-within c = omega (arith, (is-sound c.before).few, c.if-total-size.false)
+within c = omega (arith, (is-sound (goal.at.Else-total-size c).Else-a-ne0).few, c.if-total-size.false)
 
 pub overflow_sub-total : goal.overflow_sub-total
 unfolding limit
@@ -51,23 +51,23 @@ module _ (c : After-turn-a) (roll : List ℕ) (known : c.args.y ≡ traversal_of
 
 pub returns-then-a-ne0 : goal.returns-then-a-ne0
 unfolding append_roll_answer limit
-returns-then-a-ne0 c roll known = refused-first _ _ (turn_is c.before roll known) c.if-a-ne0.true
+returns-then-a-ne0 c roll known = refused-first _ _ (turn_is (goal.at.returns-then-a-ne0 c).After-turn-a roll known) c.if-a-ne0.true
 
 pub returns-then-total-size : goal.returns-then-total-size
 unfolding append_roll_answer limit
-returns-then-total-size c roll known = let e = c.before in
+returns-then-total-size c roll known = let e = (goal.at.returns-then-total-size c).Else-a-ne0 in
     let a = e.args in
     let over : limit < a.r.total + a.size = omega (arith, (is-sound e).few, c.if-total-size.true) in
-    passed_first _ _ (turn_is e.before roll known) e.if-a-ne0.false (sym (rw (lt-ltb _ _ over)))
+    passed_first _ _ (turn_is (goal.at.returns-then-total-size c).After-turn-a roll known) e.if-a-ne0.false (sym (rw (lt-ltb _ _ over)))
 
 pub returns-then-y-checkpoints : goal.returns-then-y-checkpoints
 unfolding append_roll_answer limit
-returns-then-y-checkpoints c roll known = let w = c.before.before in
-    passed_first _ _ (turn_is w.before roll known) w.if-a-ne0.false
-    (sym (rw (le-ltb _ _ (within w), full-test w.before roll known w.if-a-ne0.false c.checkpoints.ensures, lt-ltb _ _ c.if-y-checkpoints.true)))
+returns-then-y-checkpoints c roll known = let w = (goal.at.returns-then-y-checkpoints c).Else-total-size in
+    passed_first _ _ (turn_is (goal.at.returns-then-y-checkpoints c).After-turn-a roll known) w.if-a-ne0.false
+    (sym (rw (le-ltb _ _ (within w), full-test (goal.at.returns-then-y-checkpoints c).After-turn-a roll known w.if-a-ne0.false c.checkpoints.ensures, lt-ltb _ _ c.if-y-checkpoints.true)))
 
 pub returns : goal.returns
 unfolding append_roll_answer limit
-returns c roll known = let w = c.before.before in
-    passed_first _ _ (turn_is w.before roll known) w.if-a-ne0.false
-    (sym (rw (le-ltb _ _ (within w), full-test w.before roll known w.if-a-ne0.false c.checkpoints.ensures, le-ltb _ _ c.if-y-checkpoints.false)))
+returns c roll known = let w = (goal.at.returns c).Else-total-size in
+    passed_first _ _ (turn_is (goal.at.returns c).After-turn-a roll known) w.if-a-ne0.false
+    (sym (rw (le-ltb _ _ (within w), full-test (goal.at.returns c).After-turn-a roll known w.if-a-ne0.false c.checkpoints.ensures, le-ltb _ _ c.if-y-checkpoints.false)))

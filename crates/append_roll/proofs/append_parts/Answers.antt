@@ -18,7 +18,7 @@ use Rattle.checkpoints.proofs.Spacing.{step}
 use Rattle.checkpoints.proofs.AppendAnswers.{Accepted, accepted, goal-of, accepted-call}
 use Rattle.append_roll.proofs.Parts.{Entry, inserted-at, due-after, Parted, so-far-sound, none-reached, first-room, first-parted, first_rest, chain-ok, count-few, next-room, parted-more, parted-roll, parted-end, order-there}
 use Rattle.append_roll.proofs.append_parts.Goals as goal
-use Rattle.append_roll.proofs.append_parts.Goals.{After-loop-at, At-loop-at, Else-piece-first, In-loop-at, Start}
+use Rattle.append_roll.proofs.append_parts.Goals.{After-loop-at, After-to_checkpoint-first, At-loop-at, Else-piece-first, In-loop-at, Start}
 
 -- at the entry
 module _ (z : Start invariant-loop decreases-loop) where
@@ -58,7 +58,7 @@ module _ (c : Else-piece-first invariant-loop decreases-loop) where
   first-length = length-take-le first (P begun) le
 
 pub first_part-p-requires : goal.first_part-p-requires
-first_part-p-requires c = let e = c.before.before.before in
+first_part-p-requires c = let e = (goal.at.first_part-p-requires c).After-to_checkpoint-first in
     let z = begun e in
     let of = roll-of (R z) (S z) (pass z).roll_of in (
       (pass z).sound_record,
@@ -77,16 +77,16 @@ module _ (l : At-loop-at invariant-loop decreases-loop) where
   from_start = begun entered
 
   abbrev Q : ℕ
-  Q = l.between_checkpoints-step.result
+  Q = l.between-checkpoints.result
 
   step_is : Q ≡ step (R from_start).w
-  step_is = l.between_checkpoints-step.ensures
+  step_is = l.between-checkpoints.ensures
 
-  inserted-first : l.first_part-p.last.1.1.1.0 ≡ inserted-at (R from_start) (P from_start) (first entered) (S from_start)
-  inserted-first = l.first_part-p.ensures.2 _
+  inserted-first : l.first_part.last.1.1.1.0 ≡ inserted-at (R from_start) (P from_start) (first entered) (S from_start)
+  inserted-first = l.first_part.ensures.2 _
 
-  rest-first : (length l.first_part-p.last.1.1.1.0 ≡ length (S from_start))
-      × (due-after (R from_start) (P from_start) (first entered) l.first_part-p.last.1.1.1.0 ≡ goal-of (R from_start) (P from_start) (S from_start))
+  rest-first : (length l.first_part.last.1.1.1.0 ≡ length (S from_start))
+      × (due-after (R from_start) (P from_start) (first entered) l.first_part.last.1.1.1.0 ≡ goal-of (R from_start) (P from_start) (S from_start))
   rest-first =
       first_rest (R from_start) (P from_start) (entry from_start) (first entered) (next entered) (le entered) inserted-first
 
@@ -117,7 +117,7 @@ module _ (c : In-loop-at invariant-loop decreases-loop) where
       ap length is-part ∙ length-take-le (step (R start_of).w) (drop A (P start_of)) (omega (arith, reaches_step, length-drop A (P start_of)))
 
 pub next_part-p-requires : goal.next_part-p-requires
-next_part-p-requires c = let i = c.before.before in
+next_part-p-requires c = let i = (goal.at.next_part-p-requires c).In-loop-at in
     let z = start_of i in
     let p = i.loop-at.invariant in (
       (is z).word,
@@ -135,11 +135,11 @@ next_part-p-requires c = let i = c.before.before in
     )
 
 pub loop-at-preserved : goal.loop-at-preserved
-loop-at-preserved c = let i = c.before.before.before in
+loop-at-preserved c = let i = (goal.at.loop-at-preserved c).In-loop-at in
     let z = start_of i in
     let e = c.next_part-p.ensures in
     parted-more (R z) (P z) (entry z) i.loop-at.invariant (reaches_step i) (given i) (is-part i)
-    (ap (λ (q : ℕ). A i + q) (step_is i.before)) e.0 e.1 e.2 e.3
+    (ap (λ (q : ℕ). A i + q) (step_is (goal.at.loop-at-preserved c).At-loop-at)) e.0 e.1 e.2 e.3
 
 -- the rest
 module _ (c : After-loop-at invariant-loop decreases-loop) where
@@ -160,7 +160,7 @@ module _ (c : After-loop-at invariant-loop decreases-loop) where
       made ∙ order-there (R Y) (P Y) (entry Y) E p.stage.up_to _ p.place c.loop-at.p.chain p.reached
 
 pub last_part-requires : goal.last_part-requires
-last_part-requires c = let l = c.before in
+last_part-requires c = let l = (goal.at.last_part-requires c).After-loop-at in
     let z = Y l in
     let p = l.loop-at.invariant in (
       omega (arith, ap length (rest-is l), length-drop (E l) (P z), p.stage.up_to, (pass z).within),
@@ -176,25 +176,25 @@ last_part-requires c = let l = c.before in
     )
 
 pub returns : goal.returns
-returns c = let l = c.before.before in
+returns c = let l = (goal.at.returns c).After-loop-at in
     let z = Y l in
     let p = l.loop-at.invariant in
     let made : Record = record { w = (R z).w; n = (R z).n; total = (R z).total + E l; chain = l.loop-at.p.chain; held = held_of []; split = (R z).split } in
-    let less : length (P z) < E l + step (R z).w = omega (arith, p.stage.up_to, step_is l.before) in (
+    let less : length (P z) < E l + step (R z).w = omega (arith, p.stage.up_to, step_is (goal.at.returns c).At-loop-at) in (
       c.last_part.ensures made refl
           ∙ parted-end (R z) (P z) (entry z) p _ (rest-is l) (there l made refl),
       parted-roll (R z) (P z) (entry z) p less
-          ∙ (rest-first l.before).1 ∙ (accepted-call (R z) (P z) (S z) (sym z.requires.0) refl).1,
+          ∙ (rest-first (goal.at.returns c).At-loop-at).1 ∙ (accepted-call (R z) (P z) (S z) (sym z.requires.0) refl).1,
     )
 
 pub to_checkpoint-first-requires : goal.to_checkpoint-first-requires
-to_checkpoint-first-requires c = (is c.before.before).few
+to_checkpoint-first-requires c = (is (goal.at.to_checkpoint-first-requires c).Start).few
 
 pub accepted-requires : goal.accepted-requires
-accepted-requires c = let z = c.before.before.before.before in ((pass z).sound_record, (pass z).within)
+accepted-requires c = let z = (goal.at.accepted-requires c).Start in ((pass z).sound_record, (pass z).within)
 
 pub returns-then-piece-first : goal.returns-then-piece-first
-returns-then-piece-first c = let z = c.before.before.before in (
+returns-then-piece-first c = let z = (goal.at.returns-then-piece-first c).Start in (
   c.accepted.ensures,
   none-reached (R z) (P z) (entry z) _ c.to_checkpoint-first.ensures c.if-piece-first.true
       ∙ (accepted-call (R z) (P z) (S z) (sym z.requires.0) refl).1,
@@ -204,10 +204,10 @@ pub between_checkpoints-step-requires : goal.between_checkpoints-step-requires
 between_checkpoints-step-requires c = tt
 
 pub slice_bounds-first_part-end : goal.slice_bounds-first_part-end
-slice_bounds-first_part-end c = sym (first-length c.before.before)
+slice_bounds-first_part-end c = sym (first-length (goal.at.slice_bounds-first_part-end c).After-to_checkpoint-first)
 
 pub loop-at-init : goal.loop-at-init
-loop-at-init c = let e = c.before.before.before.before.before.before in
+loop-at-init c = let e = (goal.at.loop-at-init c).After-to_checkpoint-first in
     let z = begun e in
     let f = c.first_part-p.ensures in
     first-parted (R z) (P z) (entry z) (first e) (next e) (le e) f.0 f.1 (f.2 _) f.3
@@ -222,8 +222,8 @@ pub slice_bounds-next_part-end : goal.slice_bounds-next_part-end
 slice_bounds-next_part-end c = reaches c
 
 pub loop-at-smaller : goal.loop-at-smaller
-loop-at-smaller c = let i = c.before.before.before.before.before in
-    omega (arith, reaches i, step_is i.before, block-some (R (start_of i)).w)
+loop-at-smaller c = let i = (goal.at.loop-at-smaller c).In-loop-at in
+    omega (arith, reaches i, step_is (goal.at.loop-at-smaller c).At-loop-at, block-some (R (start_of i)).w)
 
 pub slice_bounds-last_part-count : goal.slice_bounds-last_part-count
 slice_bounds-last_part-count c = c.loop-at.invariant.stage.up_to
@@ -232,4 +232,4 @@ pub slice_bounds-last_part-start : goal.slice_bounds-last_part-start
 slice_bounds-last_part-start c = c.loop-at.invariant.stage.up_to
 
 pub shape_of-roll : goal.shape_of-roll
-shape_of-roll c = c.loop-at.invariant.stage.same ∙ (rest-first c.before.before.before).0
+shape_of-roll c = c.loop-at.invariant.stage.same ∙ (rest-first (goal.at.shape_of-roll c).At-loop-at).0

@@ -13,27 +13,33 @@ use Rattle.orders.proofs.AppendedSound.{appended-chain}
 use Rattle.checkpoints.specs.Checkpoints.{inserted}
 use Rattle.roll.proofs.Walked.{traversal-count, traversal-slots}
 use Rattle.append_roll.proofs.first_part.Goals as goal
-use Rattle.append_roll.proofs.first_part.Goals.{After-accepted-o}
+use Rattle.append_roll.proofs.first_part.Goals.{After-accepted-o, Start}
+
+words : (z : Start) → length z.args.r.chain ≡ 16
+words z = search rules
+
+long : (z : Start) → length z.args.r.held ≡ longest_block
+long z = search rules
 
 next-is : (c : After-accepted-o) → c.accepted-o.result.next ≡ appended c.args.r c.args.part.now
 unfolding append_accepted
-next-is c = ap (λ (o : Outcome). o.next-1) c.accepted-o.ensures
+next-is c = ap (λ (o : Outcome). o.next) c.accepted-o.ensures
 
 pub insert-known-requires : goal.insert-known-requires
-insert-known-requires c = let a = c.before.before.before in
-    let z = a.before.before.before in
+insert-known-requires c = let a = (goal.at.insert-known-requires c).After-accepted-o in
+    let z = (goal.at.insert-known-requires c).Start in
     let r = z.args.r in (
       (sounds r z.requires.0).word,
-      subst (λ (o : Record). Chain (size_of r.w) o.chain-1) (sym (next-is a)) (appended-chain r z.requires.0 (words z) (long z) z.args.part.now),
+      subst (λ (o : Record). Chain (size_of r.w) o.chain) (sym (next-is a)) (appended-chain r z.requires.0 (words z) (long z) z.args.part.now),
       z.requires.2,
       z.requires.3,
       omega (arith, traversal-count _ _ z.requires.3 z.requires.2, traversal-slots _ _ z.requires.3 z.requires.2, z.requires.4),
     )
 
 pub returns : goal.returns
-returns c = let a = c.before.before.before.before.before.before in (
-  ap (λ (o : Record). o.chain-1) (next-is a),
+returns c = let a = (goal.at.returns c).After-accepted-o in (
+  ap (λ (o : Record). o.chain) (next-is a),
   ap (λ (o : Outcome). o.count) a.accepted-o.ensures,
-  λ k. c.insert-known.ensures.0 k ∙ ap (λ (o : Record). inserted (size_of a.args.r.w) (record { number = k; chain = o.chain-1 }) a.args.roll.now) (next-is a),
+  λ k. c.insert-known.ensures.0 k ∙ ap (λ (o : Record). inserted (size_of a.args.r.w) (record { number = k; chain = o.chain }) a.args.roll.now) (next-is a),
   c.insert-known.ensures.1,
 )

@@ -21,7 +21,7 @@ none-held s e = e
 -- the record at the checkpoint, as the code makes it
 module _ (c : After-zero_bytes-held) where
   abbrev at-start : Start
-  at-start = c.before.before.before
+  at-start = (goal.at.After-zero_bytes-held c).Start
 
   abbrev order_with : List ℕ → Record
   order_with held =
@@ -46,7 +46,7 @@ overflow_add-r c = record { fits = omega (arith, c.requires.0) }
 
 pub overflow_add-o : goal.overflow_add-o
 unfolding limit
-overflow_add-o c = let y = c.before.before in
+overflow_add-o c = let y = (goal.at.overflow_add-o c).After-zero_bytes-held in
     let z = at-start y in
     record {
       fits =
@@ -61,11 +61,11 @@ overflow_add-o c = let y = c.before.before in
 
 pub accepted-o-requires : goal.accepted-o-requires
 unfolding append_accepted
-accepted-o-requires c = ((at-start c.before).pre.2 (order c.before) (order_is c.before), (at-start c.before).pre.0)
+accepted-o-requires c = ((at-start (goal.at.accepted-o-requires c).After-zero_bytes-held).requires.2 (order (goal.at.accepted-o-requires c).After-zero_bytes-held) (order_is (goal.at.accepted-o-requires c).After-zero_bytes-held), (at-start (goal.at.accepted-o-requires c).After-zero_bytes-held).requires.0)
 
 pub returns : goal.returns
 unfolding append_accepted
-returns c other is = let y = c.before.before in
+returns c other is = let y = (goal.at.returns c).After-zero_bytes-held in
     let z = at-start y in
     ap (λ (o : Outcome). record { number = o.number; count = z.args.p.count + o.count; next = o.next })
     (c.accepted-o.ensures ∙ ap (λ (r : Record). append_accepted r z.args.part.now) (order_is y ∙ sym is))

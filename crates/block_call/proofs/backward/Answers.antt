@@ -17,8 +17,8 @@ returns-then-a-ne0 c = refused-output _ _ _ c.args.chain.now c.answer-a.ensures 
 
 pub backward_bytes-requires : goal.backward_bytes-requires
 unfolding run_bytes backward backwards
-backward_bytes-requires c = let ok = accepted _ _ _ (took c.before) in (ok.size, ok.chain-1)
+backward_bytes-requires c = let ok = accepted _ _ _ (took (goal.at.backward_bytes-requires c).Else-a-ne0) in (ok.size, ok.chain)
 
 pub returns : goal.returns
 unfolding run_bytes backward backwards
-returns c = one-run backward backwards _ _ _ (λ b t. refl) (took c.before.before.before.before) c.backward_bytes.ensures
+returns c = one-run backward backwards _ _ _ (λ b t. refl) (took (goal.at.returns c).Else-a-ne0) c.backward_bytes.ensures

@@ -17,8 +17,8 @@ returns-then-a-ne0 c = refused-output _ _ _ c.args.chain.now c.answer-a.ensures 
 
 pub forward_bytes-requires : goal.forward_bytes-requires
 unfolding run_bytes forward forwards
-forward_bytes-requires c = let ok = accepted _ _ _ (took c.before) in (ok.size, ok.chain-1)
+forward_bytes-requires c = let ok = accepted _ _ _ (took (goal.at.forward_bytes-requires c).Else-a-ne0) in (ok.size, ok.chain)
 
 pub returns : goal.returns
 unfolding run_bytes forward forwards
-returns c = one-run forward forwards _ _ _ (λ b t. refl) (took c.before.before.before.before) c.forward_bytes.ensures
+returns c = one-run forward forwards _ _ _ (λ b t. refl) (took (goal.at.returns c).Else-a-ne0) c.forward_bytes.ensures

@@ -24,20 +24,20 @@ passed : (c : Else-a-ne0)
     → Accepted (start c).args.r (start c).args.last (start c).args.e (length (start c).args.output.now)
 passed c =
     let a = (start c).args in
-    accepted a.r a.last a.e (length a.output-1.now) (sym c.answer-a.ensures ∙ c.if-a-ne0.false)
+    accepted a.r a.last a.e (length a.output.now) (sym c.answer-a.ensures ∙ c.if-a-ne0.false)
 
 is-sound : (c : Else-a-ne0) → Sound (start c).args.r
 is-sound c = sounds (start c).args.r (passed c).sound_record
 
 pub write_receipt-requires : goal.write_receipt-requires
-write_receipt-requires c = let p = c.before.before.before in
+write_receipt-requires c = let p = (goal.at.write_receipt-requires c).Else-a-ne0 in
     let r = (start p).args.r in
     let s : Sound r = is-sound p in
     (s.word, digest-most r.w r.n s.digest_length, c.final_chain-t.ensures.0, (passed p).end.room)
 
 pub returns : goal.returns
 unfolding close_output
-returns c = let p = c.before.before.before.before.before.before in
+returns c = let p = (goal.at.returns c).Else-a-ne0 in
     let z = start p in
     let r = z.args.r in
     written-output _ _ _ z.args.output.now
@@ -51,16 +51,16 @@ returns-then-a-ne0 c = refused-output _ _ _ c.args.output.now c.answer-a.ensures
 
 pub overflow_mul-bits : goal.overflow_mul-bits
 unfolding limit close_output
-overflow_mul-bits c = omega (arith, (is-sound c.before).few)
+overflow_mul-bits c = omega (arith, (is-sound (goal.at.overflow_mul-bits c).Else-a-ne0).few)
 
 pub overflow_add-bits : goal.overflow_add-bits
 unfolding limit close_output
-overflow_add-bits c = omega (arith, (is-sound c.before).few, (passed c.before).end.extra)
+overflow_add-bits c = omega (arith, (is-sound (goal.at.overflow_add-bits c).Else-a-ne0).few, (passed (goal.at.overflow_add-bits c).Else-a-ne0).end.extra)
 
 pub overflow_cast-e : goal.overflow_cast-e
 unfolding limit close_output
-overflow_cast-e c = record { fits = omega (arith, (passed c.before).end.extra) }
+overflow_cast-e c = record { fits = omega (arith, (passed (goal.at.overflow_cast-e c).Else-a-ne0).end.extra) }
 
 pub final_chain-t-requires : goal.final_chain-t-requires
 unfolding limit close_output
-final_chain-t-requires c = ((passed c.before).sound_record, (passed c.before).end.extra, (passed c.before).end.low)
+final_chain-t-requires c = ((passed (goal.at.final_chain-t-requires c).Else-a-ne0).sound_record, (passed (goal.at.final_chain-t-requires c).Else-a-ne0).end.extra, (passed (goal.at.final_chain-t-requires c).Else-a-ne0).end.low)

@@ -29,21 +29,21 @@ fits z i = search rules
 
 pub slice_bounds-held-end : goal.slice_bounds-held-end
 unfolding held_bytes
-slice_bounds-held-end c = in_held c.before.before.before.before c.held_length-at.ensures
+slice_bounds-held-end c = in_held (goal.at.slice_bounds-held-end c).Start c.held_length-at.ensures
 
 pub slice_bounds-last_chain-end : goal.slice_bounds-last_chain-end
 unfolding held_bytes
-slice_bounds-last_chain-end c = sym (length-take-le _ c.args.r.held (in_held c.before.before.before.before.before c.held_length-at.ensures))
+slice_bounds-last_chain-end c = sym (length-take-le _ c.args.r.held (in_held (goal.at.slice_bounds-last_chain-end c).Start c.held_length-at.ensures))
 
 pub last_chain-requires : goal.last_chain-requires
 unfolding held_bytes
-last_chain-requires c = let z = c.before.before.before.before.before in
+last_chain-requires c = let z = (goal.at.last_chain-requires c).Start in
     let r = z.args.r in
     ((sounds r z.requires.0).word, chain-sound r z.requires.0 (words z), rw c.held_length-at.ensures (held-short r (long z)))
 
 pub returns : goal.returns
 unfolding held_bytes
-returns c = let z = c.before.before.before.before in
+returns c = let z = (goal.at.returns c).Start in
     let r = z.args.r in
     let run = c.last_chain.ensures ∙ rw c.held_length-at.ensures in (
       run-chain r.w _ (chain-sound r z.requires.0 (words z)) c.last_chain.ensures,

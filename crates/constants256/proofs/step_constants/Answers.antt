@@ -13,7 +13,7 @@ loop-j-init c = worked-none lsh256 _ _ refl refl
 
 pub put_row-requires : goal.put_row-requires
 unfolding lsh256
-put_row-requires c = let e : length c.loop-j.sc-1 ≡ lsh256.steps * 8 = search rules in omega arith
+put_row-requires c = let e : length c.loop-j.sc ≡ lsh256.steps * 8 = search rules in omega arith
 
 pub loop-j-preserved : goal.loop-j-preserved
 unfolding lsh256
@@ -22,3 +22,7 @@ loop-j-preserved c = worked-more _ _ c.loop-j.invariant c.loop-j-test.true (sear
 pub returns : goal.returns
 unfolding lsh256
 returns c = worked-all c.loop-j.invariant c.loop-j-test.false (search rules)
+
+pub loop-j-smaller : goal.loop-j-smaller
+unfolding lsh256
+loop-j-smaller c = omega arith

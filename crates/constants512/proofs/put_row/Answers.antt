@@ -16,4 +16,4 @@ pub shape_of-sc : goal.shape_of-sc
 shape_of-sc c = c.loop-l.invariant.0.len
 
 pub returns : goal.returns
-returns c = copied_all _ c.args.t3 c.loop-l.invariant.0 c.loop-l-test.false c.loop-l.invariant.1 c.well-formed.1.1.0.1.0.1
+returns c = copied_all _ c.args.p c.loop-l.invariant.0 c.loop-l-test.false c.loop-l.invariant.1 c.well_formed.1.1.0.1.0.1

@@ -22,3 +22,7 @@ loop-j-preserved c = worked-more _ _ c.loop-j.invariant c.loop-j-test.true (sear
 pub returns : goal.returns
 unfolding lsh512
 returns c = worked-all c.loop-j.invariant c.loop-j-test.false (search rules)
+
+pub loop-j-smaller : goal.loop-j-smaller
+unfolding lsh512
+loop-j-smaller c = omega arith

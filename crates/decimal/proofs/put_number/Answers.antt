@@ -16,15 +16,15 @@ few : (c : After-decimal-k) → c.decimal-k.result ≤ most_digits
 few c =
     fewest-most 10 1 c.args.x c.decimal-k.result most_digits (lit< tt) (lit≤ tt)
     (lt_of_lt_of_le c.ranges.x.fits (lit≤ tt))
-    c.decimal-k.ensures.1.0
+    c.decimal-k.ensures.len
 
 pub put-requires : goal.put-requires
-put-requires c = let d = c.before.before in omega (arith, few d, d.decimal-k.ensures.0.1)
+put-requires c = let d = (goal.at.put-requires c).After-decimal-k in omega (arith, few d, d.decimal-k.ensures.in_bounds)
 
 pub returns : goal.returns
-returns c = let d = c.before.before.before in
-    let size : c.put.result - d.args.from ≡ d.decimal-k.result = omega (arith, c.put.ensures.0, d.decimal-k.ensures.0.1) in (
-      omega (arith, few d, d.decimal-k.ensures.0.1, c.put.ensures.0),
-      subst (IsDigitCount 10 1 d.args.x) (sym size) d.decimal-k.ensures.1.0,
-      c.put.ensures.1 ∙ ap (sets d.args.output.now d.args.from) (d.decimal-k.ensures.1.1 ∙ ap (λ (k : ℕ). last_digits 10 k d.args.x) (sym size)),
+returns c = let d = (goal.at.returns c).After-decimal-k in
+    let size : c.put.result - d.args.from ≡ d.decimal-k.result = omega (arith, c.put.ensures.0, d.decimal-k.ensures.in_bounds) in (
+      omega (arith, few d, d.decimal-k.ensures.in_bounds, c.put.ensures.0),
+      subst (IsDigitCount 10 1 d.args.x) (sym size) d.decimal-k.ensures.len,
+      c.put.ensures.1 ∙ ap (sets d.args.output.now d.args.from) (d.decimal-k.ensures.digits ∙ ap (λ (k : ℕ). last_digits 10 k d.args.x) (sym size)),
     )

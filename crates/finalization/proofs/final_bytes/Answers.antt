@@ -20,13 +20,13 @@ pub slice_bounds-s-end : goal.slice_bounds-s-end
 slice_bounds-s-end c = room c
 
 pub slice_bounds-store_chain-end : goal.slice_bounds-store_chain-end
-slice_bounds-store_chain-end c = sym (length-take-le _ _ (room c.before))
+slice_bounds-store_chain-end c = sym (length-take-le _ _ (room (goal.at.slice_bounds-store_chain-end c).After-chain_bytes-size))
 
 pub store_chain-requires : goal.store_chain-requires
 store_chain-requires c = (
   c.requires.0,
   words-chain _ _ c.requires.1 c.final_words.ensures,
-  length-take-le _ _ (room c.before.before) ∙ c.chain_bytes-size.ensures,
+  length-take-le _ _ (room (goal.at.store_chain-requires c).After-chain_bytes-size) ∙ c.chain_bytes-size.ensures,
 )
 
 pub returns : goal.returns

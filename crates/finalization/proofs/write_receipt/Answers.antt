@@ -19,7 +19,7 @@ few z = omega (arith, word-most z.args.w z.requires.0)
 inside : (c : After-put-arg-1) → (c.args.n + 7) / 8 ≤ length c.digest_bytes-bytes.result
 inside c =
     let long : length c.digest_bytes-bytes.result ≡ longest_block = search rules in
-    omega (arith, few c.before.before.before.before.before.before.before)
+    omega (arith, few (goal.at.After-put-arg-1 c).Start)
 
 digest-size : (c : After-put-arg-1)
     → length (take ((c.args.n + 7) / 8) c.digest_bytes-bytes.result)
@@ -46,11 +46,11 @@ same_length c =
 
 stored : (c : After-put) → length c.put.new.0 ≡ length c.args.output.now
 unfolding receipt_bytes
-stored c = ap length c.put.ensures.1 ∙ simp (length-sets, length-set) (same_length c.before.before.before.before.before)
+stored c = ap length c.put.ensures.1 ∙ simp (length-sets, length-set) (same_length (goal.at.After-put c).After-fill)
 
 pub overflow_add-size : goal.overflow_add-size
 unfolding receipt_bytes
-overflow_add-size c = omega (arith, few c.before)
+overflow_add-size c = omega (arith, few (goal.at.overflow_add-size c).Start)
 
 pub slice_bounds-fill-end : goal.slice_bounds-fill-end
 unfolding receipt_bytes
@@ -66,41 +66,41 @@ overflow_cast-output c = omega (arith, word-most _ c.requires.0)
 
 pub bounds-output-0 : goal.bounds-output-0
 unfolding receipt_bytes
-bounds-output-0 c = omega (arith, same_length c.before.before, c.requires.3)
+bounds-output-0 c = omega (arith, same_length (goal.at.bounds-output-0 c).After-fill, c.requires.3)
 
 pub bounds-output-2 : goal.bounds-output-2
 unfolding receipt_bytes
-bounds-output-2 c = rw length-set (omega (arith, same_length c.before.before, c.requires.3))
+bounds-output-2 c = rw length-set (omega (arith, same_length (goal.at.bounds-output-2 c).After-fill, c.requires.3))
 
 pub overflow_cast-output-3 : goal.overflow_cast-output-3
 unfolding receipt_bytes
-overflow_cast-output-3 c = omega (arith, few c.before.before.before.before.before.before)
+overflow_cast-output-3 c = omega (arith, few (goal.at.overflow_cast-output-3 c).Start)
 
 pub bounds-output-3 : goal.bounds-output-3
 unfolding receipt_bytes
-bounds-output-3 c = simp length-set (omega (arith, same_length c.before.before, c.requires.3))
+bounds-output-3 c = simp length-set (omega (arith, same_length (goal.at.bounds-output-3 c).After-fill, c.requires.3))
 
 pub slice_bounds-bytes-end : goal.slice_bounds-bytes-end
 slice_bounds-bytes-end c = inside c
 
 pub slice_bounds-put-end : goal.slice_bounds-put-end
 unfolding receipt_bytes
-slice_bounds-put-end c = sym (digest-size c.before)
+slice_bounds-put-end c = sym (digest-size (goal.at.slice_bounds-put-end c).After-put-arg-1)
 
 pub put-requires : goal.put-requires
 unfolding receipt_bytes
-put-requires c = let z = c.before.before.before.before.before.before.before.before in
-    simp length-set (omega (arith, same_length c.before.before.before.before, digest-size c.before, few z, z.requires.3))
+put-requires c = let z = (goal.at.put-requires c).Start in
+    simp length-set (omega (arith, same_length (goal.at.put-requires c).After-fill, digest-size (goal.at.put-requires c).After-put-arg-1, few z, z.requires.3))
 
 pub store-requires : goal.store-requires
 unfolding receipt_bytes
-store-requires c = rw (stored c.before.before.before) c.requires.3
+store-requires c = rw (stored (goal.at.store-requires c).After-put) c.requires.3
 
 pub shape_of-output : goal.shape_of-output
 unfolding receipt_bytes
-shape_of-output c = omega (arith, stored c.before.before.before.before.before.before)
+shape_of-output c = omega (arith, stored (goal.at.shape_of-output c).After-put)
 
 pub returns : goal.returns
 unfolding receipt_bytes
-returns c = let e = c.before.before.before.before.before in
+returns c = let e = (goal.at.returns c).After-fill in
     written _ _ _ e.requires.0 e.requires.1 _ e.args.output.now (cleared e) e.digest_bytes-bytes.ensures c.put.ensures.1 c.store.ensures

@@ -7,6 +7,7 @@ use Rattle.limits.specs.Limits.{longest_block}
 use Rattle.limits.proofs.Limits.{digest-most, digest-longest}
 use Rattle.tags.specs.Hmac.{inner_key, outer_key, tag_of, hmac}
 use Rattle.hmac.proofs.hmac.Goals as goal
+use Rattle.hmac.proofs.hmac.Goals.{After-keyed_digest-inner}
 
 -- the inner digest fits into its array
 pub slice_bounds-inner-end : goal.slice_bounds-inner-end
@@ -19,7 +20,7 @@ opening-opened-requires c = (c.requires.0, digest-most _ _ c.requires.1)
 
 pub slice_bounds-keyed_digest-end : goal.slice_bounds-keyed_digest-end
 unfolding hmac tag_of inner_key outer_key
-slice_bounds-keyed_digest-end c = sym (length-take-le _ _ (slice_bounds-inner-end c.before))
+slice_bounds-keyed_digest-end c = sym (length-take-le _ _ (slice_bounds-inner-end (goal.at.slice_bounds-keyed_digest-end c).After-keyed_digest-inner))
 
 pub returns : goal.returns
 unfolding hmac tag_of inner_key outer_key

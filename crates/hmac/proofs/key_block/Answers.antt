@@ -13,6 +13,7 @@ use Rattle.finalization.proofs.MessageChain.{opened-chain}
 use Rattle.tags.proofs.Digests.{digest_on, hash-is}
 use Rattle.tags.proofs.Keys.{digest-short, filled-front, long-key, short-key}
 use Rattle.hmac.proofs.key_block.Goals as goal
+use Rattle.hmac.proofs.key_block.Goals.{After-digest_on-d}
 
 -- the digest fits into its array
 pub slice_bounds-d-end : goal.slice_bounds-d-end
@@ -23,13 +24,13 @@ pub digest_on-d-requires : goal.digest_on-d-requires
 digest_on-d-requires c = (c.requires.0, c.requires.1, c.requires.2, opened-chain _ _ c.requires.3)
 
 pub slice_bounds-zero_filled-end : goal.slice_bounds-zero_filled-end
-slice_bounds-zero_filled-end c = sym (length-take-le _ _ (slice_bounds-d-end c.before))
+slice_bounds-zero_filled-end c = sym (length-take-le _ _ (slice_bounds-d-end (goal.at.slice_bounds-zero_filled-end c).After-digest_on-d))
 
 pub zero_filled-requires : goal.zero_filled-requires
-zero_filled-requires c = rw (length-take-le _ _ (slice_bounds-d-end c.before)) (omega (arith, digest-longest _ _ c.requires.0 c.requires.1))
+zero_filled-requires c = rw (length-take-le _ _ (slice_bounds-d-end (goal.at.zero_filled-requires c).After-digest_on-d)) (omega (arith, digest-longest _ _ c.requires.0 c.requires.1))
 
 pub returns-then-block_bytes-key : goal.returns-then-block_bytes-key
-returns-then-block_bytes-key c = let f = c.before.before in
+returns-then-block_bytes-key c = let f = (goal.at.returns-then-block_bytes-key c).After-digest_on-d in
     let key = f.args.key.now in
     let short : length (take (f.args.n / 8) f.digest_on-d.result) ≤ block_bytes (size_of f.args.w) =
     rw (length-take-le _ _ (slice_bounds-d-end f)) (digest-short _ _ f.requires.0 f.requires.1 f.requires.2) in

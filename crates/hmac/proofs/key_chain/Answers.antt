@@ -12,7 +12,7 @@ use Rattle.limits.specs.Limits.{longest_block}
 use Rattle.limits.proofs.Limits.{block-most}
 use Rattle.tags.proofs.Keys.{xored-front}
 use Rattle.hmac.proofs.key_chain.Goals as goal
-use Rattle.hmac.proofs.key_chain.Goals.{Start}
+use Rattle.hmac.proofs.key_chain.Goals.{After-xor_each-b, Start}
 
 long : (z : Start) → length z.args.block ≡ longest_block
 long z = search rules
@@ -23,10 +23,10 @@ slice_bounds-b-end c = let long : length c.xor_each-b.result ≡ longest_block =
     omega (arith, c.block_bytes-size.ensures, block-most c.args.w)
 
 pub slice_bounds-forward-end : goal.slice_bounds-forward-end
-slice_bounds-forward-end c = sym (length-take-le _ _ (slice_bounds-b-end c.before))
+slice_bounds-forward-end c = sym (length-take-le _ _ (slice_bounds-b-end (goal.at.slice_bounds-forward-end c).After-xor_each-b))
 
 pub returns : goal.returns
-returns c = let z = c.before.before in
+returns c = let z = (goal.at.returns c).Start in
     c.forward-run.ensures.0
     ∙ ap (λ (s : List ℕ). forwards (size_of z.args.w) (blocks_of (size_of z.args.w) s) z.args.opened)
     (xored-front z.args.w z.args.x z.args.block (long z) c.block_bytes-size.ensures c.xor_each-b.ensures)

@@ -24,7 +24,7 @@ loop-i-init c = placed-none _ _ _ _
 
 pub loop-i-preserved : goal.loop-i-preserved
 unfolding xor_each
-loop-i-preserved c = let z = c.before in
+loop-i-preserved c = let z = (goal.at.loop-i-preserved c).Start in
     let long : length z.args.block ≡ longest_block = search rules in
     let same : at c.loop-i.b c.loop-i.i ≡ at z.args.block c.loop-i.i = c.loop-i.invariant.rest c.loop-i.i (λ k lt e. omega arith) in
     filled_more _ c.loop-i.invariant c.loop-i-test.true (omega arith)

@@ -17,3 +17,15 @@ loop-k-preserved c = (stepped-two _ c.loop-k.invariant.0 (omega arith) c.two_ste
 pub returns : goal.returns
 unfolding lsh256 expanded_words
 returns c = stepped-all c.loop-k.invariant.0 (omega arith) c.sub_message.ensures c.add_message.ensures
+
+pub loop-k-smaller : goal.loop-k-smaller
+unfolding lsh256 expanded_words
+loop-k-smaller c = omega arith
+
+pub sub_message-requires : goal.sub_message-requires
+unfolding lsh256 expanded_words
+sub_message-requires c = search rules
+
+pub two_steps-u-requires : goal.two_steps-u-requires
+unfolding lsh256 expanded_words
+two_steps-u-requires c = search rules

@@ -19,3 +19,11 @@ loop-k-preserved c = (λ t h. unstepped-two _ (c.loop-k.invariant.0 t h) c.loop-
 pub returns : goal.returns
 unfolding lsh256 expanded_words
 returns c = unstepped-is (c.loop-k.invariant.0 _ (unstepped-none _ c.sub_message.ensures c.add_message-r.ensures)) (omega arith)
+
+pub sub_message-requires : goal.sub_message-requires
+unfolding lsh256 expanded_words
+sub_message-requires c = search rules
+
+pub two_unsteps-u-requires : goal.two_unsteps-u-requires
+unfolding lsh256 expanded_words
+two_unsteps-u-requires c = search rules

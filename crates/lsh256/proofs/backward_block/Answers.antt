@@ -15,3 +15,7 @@ returns-then-steps-eq-STEPS c = run-back (expanded-stored _ _ (length-words lsh2
 pub returns : goal.returns
 unfolding lsh256 expanded_words
 returns c = run-back (expanded-stored _ _ (length-words lsh256 32 _) (omega arith) c.load_block.ensures c.expand.ensures) refl _ c.some_unsteps.ensures
+
+pub load_block-requires : goal.load_block-requires
+unfolding lsh256 expanded_words
+load_block-requires c = search rules

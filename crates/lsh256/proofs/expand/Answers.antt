@@ -34,3 +34,11 @@ shape_of-m c = c.loop-j.invariant.0.len ∙ sym c.loop-j.invariant.3
 pub returns : goal.returns
 unfolding lsh256 expanded_words
 returns c = expanded-up_to c.loop-j.invariant.0 (omega arith)
+
+pub sub_message-p-requires : goal.sub_message-p-requires
+unfolding lsh256 expanded_words
+sub_message-p-requires c = omega arith
+
+pub sub_message-q-requires : goal.sub_message-q-requires
+unfolding lsh256 expanded_words
+sub_message-q-requires c = omega arith

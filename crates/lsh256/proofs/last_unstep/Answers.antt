@@ -12,3 +12,11 @@ returns-then-steps-eq0 c = unstepped-is (unstepped-none _ c.sub_message.ensures 
 pub returns : goal.returns
 unfolding lsh256 expanded_words
 returns c = unstepped-is (unstepped-one (unstepped-is (unstepped-none _ c.sub_message.ensures c.add_message-r.ensures) (omega arith)) (omega arith) c.sub_message-2.ensures c.unstep.ensures) (omega arith)
+
+pub sub_message-requires : goal.sub_message-requires
+unfolding lsh256 expanded_words
+sub_message-requires c = search rules
+
+pub sub_message-requires-2 : goal.sub_message-requires-2
+unfolding lsh256 expanded_words
+sub_message-requires-2 c = search rules

@@ -21,3 +21,7 @@ shape_of-m c = c.loop-l.invariant.0.len
 pub returns : goal.returns
 unfolding words_of word_bytes block_bytes lsh256
 returns c = stored-front c.loop-l.invariant.0 c.loop-l-test.false (omega arith)
+
+pub load-requires : goal.load-requires
+unfolding words_of word_bytes block_bytes lsh256
+load-requires c = omega arith

@@ -17,3 +17,7 @@ loop-l-preserved c = filled_more _ c.loop-l.invariant c.loop-l-test.true (omega 
 pub returns : goal.returns
 unfolding words_of word_bytes chain_bytes lsh256
 returns c = filled-all c.loop-l.invariant c.loop-l-test.false refl
+
+pub load-requires : goal.load-requires
+unfolding words_of word_bytes chain_bytes lsh256
+load-requires c = omega arith

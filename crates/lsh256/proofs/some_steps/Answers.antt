@@ -21,3 +21,23 @@ loop-k-preserved c = (stepped-is (stepped-one (stepped-one c.loop-k.invariant.0 
 pub returns : goal.returns
 unfolding lsh256 expanded_words
 returns c = stepped-all c.loop-k.invariant.0 (omega arith) c.sub_message-2.ensures c.add_message-2.ensures
+
+pub overflow_add-k-end : goal.overflow_add-k-end
+unfolding lsh256 expanded_words
+overflow_add-k-end c = omega arith
+
+pub sub_message-requires : goal.sub_message-requires
+unfolding lsh256 expanded_words
+sub_message-requires c = search rules
+
+pub sub_message-requires-2 : goal.sub_message-requires-2
+unfolding lsh256 expanded_words
+sub_message-requires-2 c = search rules
+
+pub sub_message-requires-in-loop-k : goal.sub_message-requires-in-loop-k
+unfolding lsh256 expanded_words
+sub_message-requires-in-loop-k c = search rules
+
+pub sub_message-requires-then-i-steps : goal.sub_message-requires-then-i-steps
+unfolding lsh256 expanded_words
+sub_message-requires-then-i-steps c = search rules

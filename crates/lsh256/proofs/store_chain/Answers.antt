@@ -24,4 +24,4 @@ shape_of-d c = c.loop-l.invariant.0.len ∙ sym c.loop-l.invariant.1
 
 pub returns : goal.returns
 unfolding lsh256 word_bytes chain_bytes
-returns c = stored-all lsh256 c.loop-l.invariant.0 c.loop-l-test.false c.well-formed.1.0.1.0.1
+returns c = stored-all lsh256 c.loop-l.invariant.0 c.loop-l-test.false c.well_formed.1.0.1.0.1

@@ -16,3 +16,11 @@ loop-k-preserved c = (stepped-two _ c.loop-k.invariant.0 (omega arith) c.two_ste
 pub returns : goal.returns
 unfolding lsh512
 returns c = stepped-all c.loop-k.invariant.0 (omega arith) c.sub_message.ensures c.add_message.ensures
+
+pub loop-k-smaller : goal.loop-k-smaller
+unfolding lsh512
+loop-k-smaller c = omega arith
+
+pub two_steps-u-requires : goal.two_steps-u-requires
+unfolding lsh512
+two_steps-u-requires c = search rules

@@ -23,3 +23,11 @@ shape_of-m c = c.loop-l.invariant.0.len
 pub returns : goal.returns
 unfolding words_of word_bytes block_bytes lsh512 expanded_words
 returns c = stored-front c.loop-l.invariant.0 c.loop-l-test.false (omega arith)
+
+pub bounds-m-l : goal.bounds-m-l
+unfolding words_of word_bytes block_bytes lsh512 expanded_words
+bounds-m-l c = omega arith
+
+pub load-requires : goal.load-requires
+unfolding words_of word_bytes block_bytes lsh512 expanded_words
+load-requires c = omega arith

@@ -22,4 +22,8 @@ shape_of-m c = c.loop-l.invariant.0.len
 
 pub returns : goal.returns
 unfolding lsh512 expanded_words
-returns c = copied_all _ c.args.t3 c.loop-l.invariant.0 c.loop-l-test.false c.loop-l.invariant.1 c.well-formed.1.1.0.1.0.1
+returns c = copied_all _ c.args.r c.loop-l.invariant.0 c.loop-l-test.false c.loop-l.invariant.1 c.well_formed.1.1.0.1.0.1
+
+pub overflow_mul-a : goal.overflow_mul-a
+unfolding lsh512 expanded_words
+overflow_mul-a c = omega arith

@@ -20,3 +20,7 @@ loop-k-preserved c = (stepped-is (stepped-one (stepped-one c.loop-k.invariant.0 
 pub returns : goal.returns
 unfolding lsh512
 returns c = stepped-all c.loop-k.invariant.0 (omega arith) c.sub_message-2.ensures c.add_message-2.ensures
+
+pub overflow_add-k-end : goal.overflow_add-k-end
+unfolding lsh512
+overflow_add-k-end c = omega arith

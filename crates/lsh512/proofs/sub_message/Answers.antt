@@ -18,3 +18,19 @@ loop-l-preserved c = filled_more _ c.loop-l.invariant c.loop-l-test.true (omega 
 pub returns : goal.returns
 unfolding row lsh512 expanded_words
 returns c = filled-all c.loop-l.invariant c.loop-l-test.false refl
+
+pub bounds-m-a : goal.bounds-m-a
+unfolding row lsh512 expanded_words
+bounds-m-a c = omega arith
+
+pub offset_bounds-m-a : goal.offset_bounds-m-a
+unfolding row lsh512 expanded_words
+offset_bounds-m-a c = omega arith
+
+pub overflow_add-r : goal.overflow_add-r
+unfolding row lsh512 expanded_words
+overflow_add-r c = omega arith
+
+pub overflow_mul-a : goal.overflow_mul-a
+unfolding row lsh512 expanded_words
+overflow_mul-a c = omega arith

@@ -19,3 +19,19 @@ loop-l-preserved c = filled_more _ c.loop-l.invariant c.loop-l-test.true (omega 
 pub returns : goal.returns
 unfolding lsh256
 returns c = filled-all c.loop-l.invariant c.loop-l-test.false refl
+
+pub bounds-sc-j : goal.bounds-sc-j
+unfolding lsh256
+bounds-sc-j c = omega arith
+
+pub offset_bounds-sc-j : goal.offset_bounds-sc-j
+unfolding lsh256
+offset_bounds-sc-j c = omega arith
+
+pub overflow_add-r : goal.overflow_add-r
+unfolding lsh256
+overflow_add-r c = omega arith
+
+pub overflow_mul-r : goal.overflow_mul-r
+unfolding lsh256
+overflow_mul-r c = omega arith

@@ -9,7 +9,7 @@ use Rattle.mix256.proofs.mix_pair.Goals.{Start}
 
 -- the shifts are those of the step
 module _ (z : Start) where
-  k : Shifts z.args.j z.args.t3
+  k : Shifts z.args.j z.args.k
   k = shifts-are z.args.j z.requires.2
 
 pub xor_turned_each-x1-requires : goal.xor_turned_each-x1-requires

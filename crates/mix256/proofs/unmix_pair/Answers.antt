@@ -11,7 +11,7 @@ use Rattle.mix256.proofs.unmix_pair.Goals.{Start}
 
 -- the shifts are those of the step
 module _ (z : Start) where
-  k : Shifts z.args.j z.args.t3
+  k : Shifts z.args.j z.args.k
   k = shifts-are z.args.j z.requires.2
 
 pub turn_each-requires : goal.turn_each-requires
@@ -33,7 +33,7 @@ returns c = let z = c.before.before.before.before.before.before.before in
       c.turn_each.ensures.1,
       c.subtract-x1.ensures,
       c.turn_by_powers-y1.ensures (remaining lsh256) remaining-less z.requires.1,
-      remaining-is lsh256 amounts256 (z.args.j % 4) z.args.l z.args.y (λ i. (elem_fits w32 w32 z.args.y _ i z.well-formed.1.1.1.1.1.1.0.1.1 tt).fits),
+      remaining-is lsh256 amounts256 (z.args.j % 4) z.args.l z.args.y (λ i. (elem_fits w32 w32 z.args.y _ i z.well_formed.1.1.1.1.1.1.0.1.1 tt).fits),
       z.requires.0,
       (k z).α,
       (k z).β,

@@ -27,3 +27,15 @@ pub returns : goal.returns
 unfolding lsh512
 returns c = mixed-pair lsh512 _ _ _ _ c.gamma-g.ensures (c.four-c.ensures ∙ four-constants lsh512 c.args.sc.now c.requires.0 _ _ c.requires.1 c.requires.2)
     c.mix_word-p.ensures c.mix_word-q.ensures c.mix_word-r.ensures c.mix_word-s.ensures
+
+pub four-c-requires : goal.four-c-requires
+unfolding lsh512
+four-c-requires c = search rules
+
+pub overflow_add-j : goal.overflow_add-j
+unfolding lsh512
+overflow_add-j c = omega arith
+
+pub overflow_mul-j : goal.overflow_mul-j
+unfolding lsh512
+overflow_mul-j c = omega arith

@@ -19,23 +19,23 @@ published k = opening (size_of (at published_sizes k)) (at published_lengths k)
 
 pub returns-in-0 : goal.returns-in-0
 unfolding tabulate tabulate_from add turn rotate_left xor lsh256 lsh512 size_of alpha beta gamma tau sigma constant mix_lane add_message lanes mixed_lane mix permute step next_sub_message sub_messages sub_message steps forward_steps forward opening published_sizes published_lengths
-returns-in-0 c = ap published (sym c.in-0.keys1)
+returns-in-0 c = ap published (sym c.in-0.is)
 
 pub returns-in-1 : goal.returns-in-1
 unfolding tabulate tabulate_from add turn rotate_left xor lsh256 lsh512 size_of alpha beta gamma tau sigma constant mix_lane add_message lanes mixed_lane mix permute step next_sub_message sub_messages sub_message steps forward_steps forward opening published_sizes published_lengths
-returns-in-1 c = ap published (sym c.in-0.keys2)
+returns-in-1 c = ap published (sym c.in-1.is)
 
 pub returns-in-2 : goal.returns-in-2
 unfolding tabulate tabulate_from add turn rotate_left xor lsh256 lsh512 size_of alpha beta gamma tau sigma constant mix_lane add_message lanes mixed_lane mix permute step next_sub_message sub_messages sub_message steps forward_steps forward opening published_sizes published_lengths
-returns-in-2 c = ap published (sym c.in-0.keys3)
+returns-in-2 c = ap published (sym c.in-2.is)
 
 pub returns-in-3 : goal.returns-in-3
 unfolding tabulate tabulate_from add turn rotate_left xor lsh256 lsh512 size_of alpha beta gamma tau sigma constant mix_lane add_message lanes mixed_lane mix permute step next_sub_message sub_messages sub_message steps forward_steps forward opening published_sizes published_lengths
-returns-in-3 c = ap published (sym c.in-0.keys4)
+returns-in-3 c = ap published (sym c.in-3.is)
 
 pub returns-in-4 : goal.returns-in-4
 unfolding tabulate tabulate_from add turn rotate_left xor lsh256 lsh512 size_of alpha beta gamma tau sigma constant mix_lane add_message lanes mixed_lane mix permute step next_sub_message sub_messages sub_message steps forward_steps forward opening published_sizes published_lengths
-returns-in-4 c = ap published (sym c.in-0.keys5)
+returns-in-4 c = ap published (sym c.in-4.is)
 
 pub returns-in_default : goal.returns-in_default
 unfolding tabulate tabulate_from add turn rotate_left xor lsh256 lsh512 size_of alpha beta gamma tau sigma constant mix_lane add_message lanes mixed_lane mix permute step next_sub_message sub_messages sub_message steps forward_steps forward opening published_sizes published_lengths

@@ -23,7 +23,7 @@ pub returns-then-not-is_digest_length : goal.returns-then-not-is_digest_length
 unfolding open_call
 returns-then-not-is_digest_length c = c.refused-then-not-is_digest_length.ensures
     ∙ rw (
-      word-passed c.before.before.before.before,
+      word-passed (goal.at.returns-then-not-is_digest_length c).Else-not-is_word_size,
       sym c.is_digest_length.ensures ∙ c.if-not-is_digest_length.true,
       c.no_record-then-not-is_digest_length.ensures,
     )
@@ -34,8 +34,8 @@ is_digest_length-requires c = word-passed c
 
 pub opened-next-requires : goal.opened-next-requires
 unfolding open_call
-opened-next-requires c = (word-passed c.before.before, digest-passed c)
+opened-next-requires c = (word-passed (goal.at.opened-next-requires c).Else-not-is_word_size, digest-passed c)
 
 pub returns : goal.returns
 unfolding open_call
-returns c = rw (word-passed c.before.before.before, digest-passed c.before, c.opened-next.ensures)
+returns c = rw (word-passed (goal.at.returns c).Else-not-is_word_size, digest-passed (goal.at.returns c).Else-not-is_digest_length, c.opened-next.ensures)

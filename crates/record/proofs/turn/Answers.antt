@@ -16,8 +16,8 @@ returns-then-not-is_sound c = rw (sym c.is_sound.ensures ∙ c.if-not-is_sound.t
 
 pub returns-then-out : goal.returns-then-out
 unfolding turn_answer
-returns-then-out c = rw (sound-is c.before, c.if-out.true)
+returns-then-out c = rw (sound-is (goal.at.returns-then-out c).Else-not-is_sound, c.if-out.true)
 
 pub returns : goal.returns
 unfolding turn_answer
-returns c = rw (sound-is c.before, c.if-out.false)
+returns c = rw (sound-is (goal.at.returns c).Else-not-is_sound, c.if-out.false)

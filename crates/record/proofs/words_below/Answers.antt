@@ -14,6 +14,9 @@ use Rattle.lists.proofs.Lists.{below_at, all-below}
 use Rattle.record.proofs.words_below.Goals as goal
 use Rattle.record.proofs.words_below.Goals.{Then-w-eq64}
 
+word-32 : (w : ℕ) → is_word_size w ≡ true → (w ≡ 64 → ⊥) → w ≡ 32
+word-32 = by_size (λ (w : ℕ). (w ≡ 64 → ⊥) → w ≡ 32) (λ other. refl) (λ other. absurd (other refl))
+
 fits : (c : Then-w-eq64 invariant-loop decreases-loop) (i : ℕ) → Fits w64 (get_or c.args.chain i 0)
 fits c i = search rules
 

@@ -21,28 +21,28 @@ module _ (z : Start) where
   abbrev H : List ℕ
   H = z.args.h.now
 
-  long : length R.held-1 ≡ longest_block
+  long : length R.held ≡ longest_block
   long = search rules
 
   within : {k : ℕ} → k ≡ held_length R.w R.total → k ≤ length H
   within is = rw is z.requires
 
-  in_held : {k : ℕ} → k ≡ held_length R.w R.total → k ≤ length R.held-1
+  in_held : {k : ℕ} → k ≡ held_length R.w R.total → k ≤ length R.held
   in_held = fill-in R long
 
 pub overflow_sub-before : goal.overflow_sub-before
 unfolding held_differs held_bytes
-overflow_sub-before c = within c.before.before.before c.held_length-at.ensures
+overflow_sub-before c = within (goal.at.overflow_sub-before c).Start c.held_length-at.ensures
 
 pub slice_bounds-held-end : goal.slice_bounds-held-end
 unfolding held_differs held_bytes
-slice_bounds-held-end c = in_held c.before.before.before.before c.held_length-at.ensures
+slice_bounds-held-end c = in_held (goal.at.slice_bounds-held-end c).Start c.held_length-at.ensures
 
 pub slice_bounds-equal_bytes-end-2 : goal.slice_bounds-equal_bytes-end-2
 unfolding held_differs held_bytes
-slice_bounds-equal_bytes-end-2 c = let z = c.before.before.before.before.before in sym (length-take-le _ (R z).held-1 (in_held z c.held_length-at.ensures))
+slice_bounds-equal_bytes-end-2 c = let z = (goal.at.slice_bounds-equal_bytes-end-2 c).Start in sym (length-take-le _ (R z).held (in_held z c.held_length-at.ensures))
 
 pub returns : goal.returns
 unfolding held_differs held_bytes
-returns c = let h = H c.before.before.before in
+returns c = let h = H (goal.at.returns c).Start in
     ap not c.equal_bytes.ensures ∙ rw (from_place h (length h - c.held_length-at.result), c.held_length-at.ensures)

@@ -16,11 +16,11 @@ returns-then-starts_off_block c = c.refused.ensures ∙ rw (sym c.starts_off_blo
 
 pub returns-then-keeps_too_much : goal.returns-then-keeps_too_much
 unfolding rewind_in_turn
-returns-then-keeps_too_much c = c.refused-then-keeps_too_much.ensures ∙ rw (on-block c.before.before.before, sym c.keeps_too_much.ensures ∙ c.if-keeps_too_much.true)
+returns-then-keeps_too_much c = c.refused-then-keeps_too_much.ensures ∙ rw (on-block (goal.at.returns-then-keeps_too_much c).Else-starts_off_block, sym c.keeps_too_much.ensures ∙ c.if-keeps_too_much.true)
 
 pub rewind_bytes-requires : goal.rewind_bytes-requires
 unfolding rewind_in_turn
-rewind_bytes-requires c = let e = c.before.before in (e.requires, on-block e, sym c.keeps_too_much.ensures ∙ c.if-keeps_too_much.false)
+rewind_bytes-requires c = let e = (goal.at.rewind_bytes-requires c).Else-starts_off_block in (e.requires, on-block e, sym c.keeps_too_much.ensures ∙ c.if-keeps_too_much.false)
 
 pub returns : goal.returns
 unfolding rewind_in_turn

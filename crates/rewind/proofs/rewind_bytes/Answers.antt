@@ -25,11 +25,11 @@ module _ (z : Start) where
   is-sound : Sound R
   is-sound = sounds R z.requires.0
 
-  words : length R.chain-1 ≡ 16
+  words : length R.chain ≡ 16
   words = search rules
 
-  chain : Chain (size_of R.w) R.chain-1
-  chain = chain-is R.w R.chain-1 is-sound.word words is-sound.below
+  chain : Chain (size_of R.w) R.chain
+  chain = chain-is R.w R.chain is-sound.word words is-sound.below
 
   on : OnBlock B R.total (length H)
   on = on-block B R.total (length H) z.requires.1
@@ -39,7 +39,7 @@ module _ (z : Start) where
 
 pub held_differs-requires : goal.held_differs-requires
 unfolding rewind_in_turn reached
-held_differs-requires c = let z = c.before in fill-le (B z) (R z).total (length (H z)) (on z)
+held_differs-requires c = let z = (goal.at.held_differs-requires c).Start in fill-le (B z) (R z).total (length (H z)) (on z)
 
 pub returns-then-held_differs : goal.returns-then-held_differs
 unfolding rewind_in_turn reached
@@ -47,11 +47,11 @@ returns-then-held_differs c = c.refused.ensures ∙ rw (c.requires.1, c.requires
 
 pub backward-run-requires : goal.backward-run-requires
 unfolding rewind_in_turn reached
-backward-run-requires c = let z = c.before.before.before.before in ((is-sound z).word, chain z)
+backward-run-requires c = let z = (goal.at.backward-run-requires c).Start in ((is-sound z).word, chain z)
 
 pub cut-requires : goal.cut-requires
 unfolding rewind_in_turn reached
-cut-requires c = let z = c.before.before.before.before.before.before in
+cut-requires c = let z = (goal.at.cut-requires c).Start in
     (z.requires.0, c.backward-run.ensures.1, (on z).ranges, (few z).0, (few z).1, (few z).0)
 
 pub returns : goal.returns

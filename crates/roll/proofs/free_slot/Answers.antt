@@ -12,6 +12,12 @@ use Rattle.roll.specs.Traversal.{marked}
 use Rattle.roll.proofs.Walked.{unmarked, marked-is}
 use Rattle.roll.proofs.free_slot.Goals as goal
 
+turn : (i n : ℕ) (linked : List ℕ) → member i linked ≡ true → first_free i (suc n) linked ≡ first_free (i + 1) n linked
+turn i n linked e = rw (e, add-one i)
+
+found : (i n : ℕ) (linked : List ℕ) → member i linked ≡ false → first_free i (suc n) linked ≡ i
+found i n linked e = rw e
+
 pub loop-i-init : goal.loop-i-init
 unfolding free_slot
 loop-i-init c = let e : c.args.k + 1 - 1 ≡ c.args.k = omega arith in

@@ -11,6 +11,11 @@ use Rattle.roll.proofs.index_place.Goals.{After-slot_bytes}
 few : (c : After-slot_bytes) → (c.args.i - 1) * c.slot_bytes.result ≤ most_slots * 256
 few c = rw c.slot_bytes.ensures (slots-most c.args.w (c.args.i - 1) (omega arith))
 
+slot-place : (z : WordSize) (i : ℕ) → (i ≡ 0 → ⊥) → index_bytes + (i - 1) * slot_bytes z ≡ index_place z i
+unfolding index_place roll_bytes
+slot-place z zero some = absurd (some (omega arith))
+slot-place z (suc i) some = let e : suc i - 1 ≡ i = omega arith in rw e
+
 pub returns-then-i-eq0 : goal.returns-then-i-eq0
 unfolding index_place
 returns-then-i-eq0 c = rw c.if-i-eq0.true

@@ -54,26 +54,31 @@ module _ (z : Start) where
   within : (0 < taken Z S) × (taken Z S ≤ slot_count Z (length S))
   within = taken-within Z ok S z.requires.2 room (record { number = 0; chain = z.args.t }) z.requires.1
 
-free-is : (c : After-free_slot-i) → c.free_slot-i.result ≡ taken (Z c.before.before.before) (S c.before.before.before)
+free-is : (c : After-free_slot-i) → c.free_slot-i.result ≡ taken (Z (goal.at.After-free_slot-i c).Start) (S (goal.at.After-free_slot-i c).Start)
 unfolding taken
 free-is c =
-    let z = c.before.before.before in
-    c.free_slot-i.ensures (links (Z z) (S z)) (ap (λ (y : Traversal). y.marks-1) (traversal z)) ∙ ap (λ (k : ℕ). free_slot k (links (Z z) (S z))) (slots z)
+    let z = (goal.at.After-free_slot-i c).Start in
+    c.free_slot-i.ensures (links (Z z) (S z)) (ap (λ (y : Traversal). y.marks) (traversal z)) ∙ ap (λ (k : ℕ). free_slot k (links (Z z) (S z))) (slots z)
 
-free_in : (c : After-free_slot-i) → (0 < c.free_slot-i.result) × (c.free_slot-i.result ≤ slot_count (Z c.before.before.before) (length (S c.before.before.before)))
-free_in c = rw (free-is c) (within c.before.before.before)
+free_in : (c : After-free_slot-i) → (0 < c.free_slot-i.result) × (c.free_slot-i.result ≤ slot_count (Z (goal.at.After-free_slot-i c).Start) (length (S (goal.at.After-free_slot-i c).Start)))
+free_in c = rw (free-is c) (within (goal.at.After-free_slot-i c).Start)
 
 -- the roll with the slot written is as long
-written : (c : After-put_slot) → length c.put_slot.new.1.0 ≡ length (S c.before.before.before.before.before)
+written : (c : After-put_slot) → length c.put_slot.new.1.0 ≡ length (S (goal.at.After-put_slot c).Start)
 written c =
-    let f = c.before.before in
-    let z = f.before.before.before in
+    let f = (goal.at.After-put_slot c).After-free_slot-i in
+    let z = (goal.at.After-put_slot c).Start in
     ap length c.put_slot.ensures
     ∙ slot-size (Z z) (ok z) (slot_count (Z z) (length (S z))) (S z) (sizes z).size f.free_slot-i.result (free_in f).1 (free_in f).0 z.args.t z.requires.1
 
+inserted-is : (z : WordSize) (s t : List ℕ) (k : ℕ) {u : List ℕ} {l i : ℕ} → u ≡ with_slot z s i t → l ≡ lead_to z s (length (links z s)) → i ≡ taken z s
+    → with_index z u l i ≡ inserted z (record { number = k; chain = t }) s
+unfolding inserted
+inserted-is z s t k slot last chosen = rw (slot, last, chosen)
+
 pub returns : goal.returns
-returns c = let f = c.before.before in
-    let z = f.before.before.before in
+returns c = let f = (goal.at.returns c).After-free_slot-i in
+    let z = (goal.at.returns c).Start in
     let bytes : (k : ℕ) → c.put_index.new.1.0 ≡ inserted (Z z) (record { number = k; chain = z.args.t }) (S z) =
     λ k. c.put_index.ensures ∙ inserted-is (Z z) (S z) z.args.t k c.put_slot.ensures (last z) (free-is f) in (
       bytes,
@@ -81,15 +86,15 @@ returns c = let f = c.before.before in
     )
 
 pub free_slot-i-requires : goal.free_slot-i-requires
-free_slot-i-requires c = let z = c.before.before in omega (arith, slots z, (sizes z).most)
+free_slot-i-requires c = let z = (goal.at.free_slot-i-requires c).Start in omega (arith, slots z, (sizes z).most)
 
 pub put_slot-requires : goal.put_slot-requires
-put_slot-requires c = let z = c.before.before.before.before in (z.requires.0, z.requires.1, (have z).right, (free_in c.before).0, (free_in c.before).1)
+put_slot-requires c = let z = (goal.at.put_slot-requires c).Start in (z.requires.0, z.requires.1, (have z).right, (free_in (goal.at.put_slot-requires c).After-free_slot-i).0, (free_in (goal.at.put_slot-requires c).After-free_slot-i).1)
 
 pub put_index-requires : goal.put_index-requires
-put_index-requires c = let s = c.before.before.before in
-    let f = s.before.before in
-    let z = f.before.before.before in (
+put_index-requires c = let s = (goal.at.put_index-requires c).After-put_slot in
+    let f = (goal.at.put_index-requires c).After-free_slot-i in
+    let z = (goal.at.put_index-requires c).Start in (
       rw (written s) (have z).right,
       omega (
         arith,
@@ -101,6 +106,6 @@ put_index-requires c = let s = c.before.before.before in
     )
 
 pub with_link-requires : goal.with_link-requires
-with_link-requires c = let f = c.before.before.before.before.before.before.before.before in
-    let z = f.before.before.before in
+with_link-requires c = let f = (goal.at.with_link-requires c).After-free_slot-i in
+    let z = (goal.at.with_link-requires c).Start in
     (omega (arith, (free_in f).1, (sizes z).most), omega (arith, count z, room z, (sizes z).most))

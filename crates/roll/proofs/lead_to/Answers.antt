@@ -12,6 +12,10 @@ use Rattle.checkpoints.proofs.Shown.{lead-in}
 use Rattle.roll.proofs.Walked.{lead-next}
 use Rattle.roll.proofs.lead_to.Goals as goal
 
+lead-none : (w : ℕ) (s : List ℕ) → 0 ≡ lead_to (size_of w) s 0
+unfolding lead_to
+lead-none w s = refl
+
 pub loop-j-init : goal.loop-j-init
 loop-j-init c = (zero-le, lead-none c.args.w c.args.roll.now)
 

@@ -15,11 +15,11 @@ sizes z = sized (size_of z.args.w) z.args.roll.now z.requires.0
 
 pub index_place-requires : goal.index_place-requires
 unfolding next_index
-index_place-requires c = omega (arith, c.requires.1, (sizes c.before).most)
+index_place-requires c = omega (arith, c.requires.1, (sizes (goal.at.index_place-requires c).Start).most)
 
 pub read_index-requires : goal.read_index-requires
 unfolding next_index
-read_index-requires c = let z = c.before.before in
+read_index-requires c = let z = (goal.at.read_index-requires c).Start in
     omega (arith, c.index_place.ensures, index_in (size_of z.args.w) z.args.i _ z.requires.1, (sizes z).size)
 
 pub returns : goal.returns

@@ -21,15 +21,24 @@ module _ (z : Start) where
 
 inside : (c : After-index_place-a) → c.index_place-a.result + index_bytes ≤ length c.args.roll.now
 inside c =
-    let z = c.before.before in
+    let z = (goal.at.After-index_place-a c).Start in
     omega (arith, c.index_place-a.ensures, index_in (size_of z.args.w) z.args.i _ z.requires.1, (sizes z).size)
+
+-- the two bytes of an index below 256
+low : (x : ℕ) → x % 256 ≡ byte_at x 0
+unfolding byte_at
+low x = sym (ap (λ (n : ℕ). n % 256) (div-one x))
+
+high : (x : ℕ) → x ≤ most_slots → x / 256 ≡ byte_at x 1
+unfolding byte_at
+high x few = omega arith
 
 pub returns : goal.returns
 unfolding with_index tabulate tabulate_from
 returns c = rw (low c.args.next, high c.args.next c.requires.2, add-one c.index_place-a.result, c.index_place-a.ensures)
 
 pub index_place-a-requires : goal.index_place-a-requires
-index_place-a-requires c = omega (arith, c.requires.1, (sizes c.before).most)
+index_place-a-requires c = omega (arith, c.requires.1, (sizes (goal.at.index_place-a-requires c).Start).most)
 
 pub overflow_add-b : goal.overflow_add-b
 overflow_add-b c = record { fits = omega (arith, inside c) }

@@ -16,6 +16,12 @@ use Rattle.checkpoints.proofs.Writes.{index-size}
 use Rattle.roll.proofs.put_slot.Goals as goal
 use Rattle.roll.proofs.put_slot.Goals.{After-chain_bytes, After-index_place-a, Start}
 
+-- the bytes of the chain in the place of as many others
+stored : {a k b : ℕ} {xs ys vs us : List ℕ} → a ≡ b → xs ≡ us → ys ≡ vs → k ≡ length vs → b + length vs ≤ length us
+    → take a xs ++ (ys ++ drop k (drop a xs)) ≡ sets us b vs
+stored {a} {k} {b} {xs} {ys} {vs} {us} ea ex ey ek room =
+    rw (ea, ex, ey, ek, drop-drop (length vs) b us) (sym (sets-eq vs us b room ∙ append_assoc (take b us) vs (drop (b + length vs) us)))
+
 module _ (z : Start) where
   sizes : Sized (size_of z.args.w) z.args.roll.now
   sizes = sized (size_of z.args.w) z.args.roll.now z.requires.2
@@ -38,15 +44,15 @@ unfolding chain_place
 place c = ap (λ (a : ℕ). a + index_bytes) c.index_place-a.ensures
 
 end : (c : After-chain_bytes) → c.index_place-a.result + index_bytes + c.chain_bytes.result ≤ length c.args.roll.now
-end c = omega (arith, place c.before, c.chain_bytes.ensures, inside c.before.before.before.before.before.before.before)
+end c = omega (arith, place (goal.at.After-chain_bytes c).After-index_place-a, c.chain_bytes.ensures, inside (goal.at.After-chain_bytes c).Start)
 
 pub index_place-a-requires : goal.index_place-a-requires
 unfolding with_slot
-index_place-a-requires c = let z = c.before.before.before.before.before in omega (arith, z.requires.4, (sizes z).most)
+index_place-a-requires c = let z = (goal.at.index_place-a-requires c).Start in omega (arith, z.requires.4, (sizes z).most)
 
 pub overflow_add-a : goal.overflow_add-a
 unfolding with_slot
-overflow_add-a c = record { fits = omega (arith, place c, inside c.before.before.before.before.before.before) }
+overflow_add-a c = record { fits = omega (arith, place c, inside (goal.at.overflow_add-a c).Start) }
 
 pub overflow_add-e : goal.overflow_add-e
 unfolding with_slot
@@ -55,12 +61,12 @@ overflow_add-e c = record { fits = omega (arith, end c) }
 pub slice_bounds-store_chain-end : goal.slice_bounds-store_chain-end
 unfolding with_slot
 slice_bounds-store_chain-end c = subst (λ (s : List ℕ). c.index_place-a.result + index_bytes + c.chain_bytes.result ≤ length s) (sym c.put_index.ensures)
-    (rw (first-size c.before.before.before.before.before.before.before) (end c))
+    (rw (first-size (goal.at.slice_bounds-store_chain-end c).Start) (end c))
 
 pub returns : goal.returns
 unfolding with_slot
-returns c = let z = c.before.before.before.before.before.before.before in
+returns c = let z = (goal.at.returns c).Start in
     let many : c.index_place-a.result + index_bytes + c.chain_bytes.result - (c.index_place-a.result + index_bytes) ≡ length (bytes_of (size_of z.args.w) z.args.t) =
     omega (arith, c.chain_bytes.ensures, chain-long z) in
-    stored (place c.before) c.put_index.ensures c.store_chain.ensures many
+    stored (place (goal.at.returns c).After-index_place-a) c.put_index.ensures c.store_chain.ensures many
     (rw (first-size z, chain-long z) (inside z))

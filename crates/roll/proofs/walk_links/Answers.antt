@@ -21,11 +21,11 @@ module _ (c : Else-marks-i-ne0 invariant-loop decreases-loop) where
   abbrev at-start : Start invariant-loop decreases-loop
   at-start = at_head.before.before.before.before
 
-  within : at_head.loop-i.i ≤ slot_count (size_of at-start.args.w) (length at-start.args.roll.now)
+  within : at_head.loop.i ≤ slot_count (size_of at-start.args.w) (length at-start.args.roll.now)
   within = omega (arith, at-start.requires.1)
 
-  few : at_head.loop-i.count < slot_count (size_of at-start.args.w) (length at-start.args.roll.now)
-  few = walked-few _ _ at-start.requires.0 at_head.loop-i.inv c.loop-i-test.true within c.if-marks-i-ne0.false
+  few : at_head.loop.count < slot_count (size_of at-start.args.w) (length at-start.args.roll.now)
+  few = walked-few _ _ at-start.requires.0 at_head.loop.inv c.loop-i-test.true within c.if-marks-i-ne0.false
 
 pub no_marks-marks-requires : goal.no_marks-marks-requires
 no_marks-marks-requires c = tt
@@ -43,7 +43,7 @@ pub returns-then-slots-i : goal.returns-then-slots-i
 returns-then-slots-i c = c.not_a_roll.ensures ∙ walked-beyond _ _ c.requires.0 c.loop-i.invariant c.loop-i-test.true (omega (arith, c.requires.1))
 
 pub bounds-marks-i : goal.bounds-marks-i
-bounds-marks-i c = let z = c.before.before.before.before.before.before in
+bounds-marks-i c = let z = (goal.at.bounds-marks-i c).Start in
     omega (arith, z.requires.1, (sizes z).most)
 
 pub not_a_roll-requires-then-marks-i-ne0 : goal.not_a_roll-requires-then-marks-i-ne0
@@ -63,11 +63,11 @@ pub next_index-i-requires-in-loop-i : goal.next_index-i-requires-in-loop-i
 next_index-i-requires-in-loop-i c = ((at-start c).requires.0, within c)
 
 pub loop-i-smaller : goal.loop-i-smaller
-loop-i-smaller c = omega (arith, few c.before, (at-start c.before).pre.1)
+loop-i-smaller c = omega (arith, few (goal.at.loop-i-smaller c).Else-marks-i-ne0, (at-start (goal.at.loop-i-smaller c).Else-marks-i-ne0).requires.1)
 
 pub loop-i-preserved : goal.loop-i-preserved
-loop-i-preserved c = let e = c.before in
-    walked_more _ _ (at-start e).requires.0 (at_head e).loop-i.invariant e.loop-i-test.true (within e) e.if-marks-i-ne0.false _ c.next_index-i-in-loop-i.ensures
+loop-i-preserved c = let e = (goal.at.loop-i-preserved c).Else-marks-i-ne0 in
+    walked_more _ _ (at-start e).requires.0 (at_head e).loop.invariant e.loop-i-test.true (within e) e.if-marks-i-ne0.false _ c.next_index-i-in-loop-i.ensures
 
 pub returns : goal.returns
 returns c = walked_all _ _ c.requires.0 c.loop-i.invariant c.loop-i-test.false _ c.requires.1

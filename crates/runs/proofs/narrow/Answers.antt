@@ -16,4 +16,4 @@ pub loop-l-preserved : goal.loop-l-preserved
 loop-l-preserved c = filled_more _ c.loop-l.invariant c.loop-l-test.true (omega arith) refl
 
 pub returns : goal.returns
-returns c = filled-all c.loop-l.invariant c.loop-l-test.false refl ∙ tabulate-ext 16 _ c.args.t1 c.well-formed.0.1.0.1 (λ k h. refl)
+returns c = filled-all c.loop-l.invariant c.loop-l-test.false refl ∙ tabulate-ext 16 _ c.args.t c.well_formed.0.1.0.1 (λ k h. refl)

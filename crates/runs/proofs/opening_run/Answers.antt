@@ -14,6 +14,14 @@ use Rattle.limits.proofs.Limits.{block-most}
 use Rattle.lists.proofs.Zeros.{take-replicate}
 use Rattle.runs.proofs.opening_run.Goals as goal
 
+zeros : (w : ℕ) {k : ℕ} {s : List ℕ} → k ≡ block_bytes (size_of w) → s ≡ replicate longest_block 0 → take k s ≡ replicate (block_bytes (size_of w)) 0
+zeros w size is = rw (size, is) (take-replicate (block_bytes (size_of w)) longest_block 0 (block-most w))
+
+run_is : (w n : ℕ) {k : ℕ} {s t : List ℕ} → is_word_size w ≡ true → k ≡ block_bytes (size_of w) → s ≡ replicate longest_block 0 → t ≡ first_chain w n
+    → forwards (size_of w) (blocks_of (size_of w) (take k s)) t ≡ opening (size_of w) n
+run_is w n {k} {s} e size is first =
+    ap (forwards (size_of w) (blocks_of (size_of w) (take k s))) first ∙ opening-run w n (take k s) e (zeros w size is)
+
 pub slice_bounds-zeros-end : goal.slice_bounds-zeros-end
 slice_bounds-zeros-end c = rw (c.block_bytes-size.ensures, c.zero_bytes-zeros.ensures) (block-most _)
 

@@ -34,7 +34,7 @@ digest-passed : (c : Else-not-is_digest_length) → is_digest_length (at c.args.
 digest-passed c = sym c.is_digest_length.ensures ∙ c.if-not-is_digest_length.false
 
 few : (c : Else-not-is_digest_length) → c.digest_length_of-n.result ≤ longest_digest 64
-few c = digest-longest _ _ (word-passed c.before.before.before.before.before) (digest-passed c)
+few c = digest-longest _ _ (word-passed (goal.at.Else-not-is_digest_length c).Else-not-is_word_size) (digest-passed c)
 
 unused-passed : (c : Else-not-is_unused_zero) → unused_zero c.args.r.now c.digest_length_of-n.result ≡ true
 unused-passed c = sym c.is_unused_zero.ensures ∙ c.if-not-is_unused_zero.false
@@ -51,18 +51,18 @@ returns-then-not-is_word_size c = let f : is_word_size (at c.args.r.now 0) ≡ f
 
 pub returns-then-r-ne0 : goal.returns-then-r-ne0
 unfolding receipt_bytes well_formed word_size_of most_bits limit
-returns-then-r-ne0 c = rw (word-passed c.before.before, ne_eqb (at c.args.r.now 1) 0 c.if-r-ne0.true)
+returns-then-r-ne0 c = rw (word-passed (goal.at.returns-then-r-ne0 c).Else-not-is_word_size, ne_eqb (at c.args.r.now 1) 0 c.if-r-ne0.true)
 
 pub is_digest_length-requires : goal.is_digest_length-requires
 unfolding receipt_bytes well_formed word_size_of most_bits limit
-is_digest_length-requires c = word-passed c.before.before.before
+is_digest_length-requires c = word-passed (goal.at.is_digest_length-requires c).Else-not-is_word_size
 
 pub returns-then-not-is_digest_length : goal.returns-then-not-is_digest_length
 unfolding receipt_bytes well_formed word_size_of most_bits limit
 returns-then-not-is_digest_length c = let r = c.args.r.now in
     let f : is_digest_length (at r 0) c.digest_length_of-n.result ≡ false = sym c.is_digest_length.ensures ∙ c.if-not-is_digest_length.true in
     sym (sym (by_length-is r c.digest_length_of-n.ensures)
-    ∙ rw (word-passed c.before.before.before.before.before, eq-eqb (at r 1) 0 c.if-r-ne0.false, f))
+    ∙ rw (word-passed (goal.at.returns-then-not-is_digest_length c).Else-not-is_word_size, eq-eqb (at r 1) 0 c.if-r-ne0.false, f))
 
 pub is_unused_zero-requires : goal.is_unused_zero-requires
 unfolding receipt_bytes well_formed word_size_of most_bits limit
@@ -70,28 +70,28 @@ is_unused_zero-requires c = (c.requires, few c)
 
 pub returns-then-not-is_unused_zero : goal.returns-then-not-is_unused_zero
 unfolding receipt_bytes well_formed word_size_of most_bits limit
-returns-then-not-is_unused_zero c = let e = c.before.before in
+returns-then-not-is_unused_zero c = let e = (goal.at.returns-then-not-is_unused_zero c).Else-not-is_digest_length in
     let r = e.args.r.now in
     let f : unused_zero r e.digest_length_of-n.result ≡ false = sym c.is_unused_zero.ensures ∙ c.if-not-is_unused_zero.true in
     sym (sym (by_length-is r e.digest_length_of-n.ensures)
-    ∙ rw (word-passed e.before.before.before.before.before, eq-eqb (at r 1) 0 e.if-r-ne0.false, digest-passed e, f))
+    ∙ rw (word-passed (goal.at.returns-then-not-is_unused_zero c).Else-not-is_word_size, eq-eqb (at r 1) 0 e.if-r-ne0.false, digest-passed e, f))
 
 pub is_zero_after-requires : goal.is_zero_after-requires
 unfolding receipt_bytes well_formed word_size_of most_bits limit
-is_zero_after-requires c = (c.requires, few c.before.before)
+is_zero_after-requires c = (c.requires, few (goal.at.is_zero_after-requires c).Else-not-is_digest_length)
 
 pub returns-then-not-is_zero_after : goal.returns-then-not-is_zero_after
 unfolding receipt_bytes well_formed word_size_of most_bits limit
-returns-then-not-is_zero_after c = let e = c.before.before.before.before in
+returns-then-not-is_zero_after c = let e = (goal.at.returns-then-not-is_zero_after c).Else-not-is_digest_length in
     let r = e.args.r.now in
     let f : zero_after r e.digest_length_of-n.result ≡ false = sym c.is_zero_after.ensures ∙ c.if-not-is_zero_after.true in
     sym (sym (by_length-is r e.digest_length_of-n.ensures)
-    ∙ rw (word-passed e.before.before.before.before.before, eq-eqb (at r 1) 0 e.if-r-ne0.false, digest-passed e, unused-passed c.before.before, f))
+    ∙ rw (word-passed (goal.at.returns-then-not-is_zero_after c).Else-not-is_word_size, eq-eqb (at r 1) 0 e.if-r-ne0.false, digest-passed e, unused-passed (goal.at.returns-then-not-is_zero_after c).Else-not-is_unused_zero, f))
 
 pub returns : goal.returns
 unfolding receipt_bytes well_formed word_size_of most_bits limit
-returns c = let e = c.before.before.before.before.before in
+returns c = let e = (goal.at.returns c).Else-not-is_digest_length in
     let r = e.args.r.now in
     let f : zero_after r e.digest_length_of-n.result ≡ true = sym c.is_zero_after.ensures ∙ c.if-not-is_zero_after.false in
     sym (sym (by_length-is r e.digest_length_of-n.ensures)
-    ∙ rw (word-passed e.before.before.before.before.before, eq-eqb (at r 1) 0 e.if-r-ne0.false, digest-passed e, unused-passed c.before.before.before, f, c.bit_length_of.ensures))
+    ∙ rw (word-passed (goal.at.returns c).Else-not-is_word_size, eq-eqb (at r 1) 0 e.if-r-ne0.false, digest-passed e, unused-passed (goal.at.returns c).Else-not-is_unused_zero, f, c.bit_length_of.ensures))

@@ -32,12 +32,12 @@ is_well_formed-requires-2 c = c.if-b-ne-RECEIPT.false
 
 pub returns-then-not-is_well_formed-2 : goal.returns-then-not-is_well_formed-2
 unfolding same_call is_receipt_long receipt_bytes
-returns-then-not-is_well_formed-2 c = rw (eq-eqb _ receipt_bytes c.if-a-ne-RECEIPT.false, eq-eqb _ receipt_bytes c.if-b-ne-RECEIPT.false, a-passed c.before.before, sym c.is_well_formed-2.ensures ∙ c.if-not-is_well_formed-2.true)
+returns-then-not-is_well_formed-2 c = rw (eq-eqb _ receipt_bytes c.if-a-ne-RECEIPT.false, eq-eqb _ receipt_bytes c.if-b-ne-RECEIPT.false, a-passed (goal.at.returns-then-not-is_well_formed-2 c).Else-not-is_well_formed, sym c.is_well_formed-2.ensures ∙ c.if-not-is_well_formed-2.true)
 
 pub all_agree-yes-requires : goal.all_agree-yes-requires
 unfolding same_call is_receipt_long receipt_bytes
 all_agree-yes-requires c = (
-  record { long = c.if-a-ne-RECEIPT.false; bytes = λ i. (c.shared_slice_known-1.given i).fits; form = a-passed c.before.before },
+  record { long = c.if-a-ne-RECEIPT.false; bytes = λ i. (c.shared_slice_known-1.given i).fits; form = a-passed (goal.at.all_agree-yes-requires c).Else-not-is_well_formed },
   record { long = c.if-b-ne-RECEIPT.false; bytes = λ i. (c.shared_slice_known-2-1.given i).fits; form = sym c.is_well_formed-2.ensures ∙ c.if-not-is_well_formed-2.false },
 )
 
@@ -46,7 +46,7 @@ unfolding same_call is_receipt_long receipt_bytes
 returns c = rw (
   eq-eqb _ receipt_bytes c.if-a-ne-RECEIPT.false,
   eq-eqb _ receipt_bytes c.if-b-ne-RECEIPT.false,
-  a-passed c.before.before.before,
+  a-passed (goal.at.returns c).Else-not-is_well_formed,
   sym c.is_well_formed-2.ensures ∙ c.if-not-is_well_formed-2.false,
   c.all_agree-yes.ensures,
 )

@@ -16,5 +16,5 @@ returns-then-a-ne0 c = c.refused.ensures ∙ turn-refused _ (ap not c.is_begun.e
 
 pub returns : goal.returns
 unfolding abandon_call
-returns c = let e = c.before.before in
+returns c = let e = (goal.at.returns c).Else-a-ne0 in
     c.stepped.ensures ∙ ap (stepped _) c.not_begun-none.ensures ∙ sym (in-turn _ (turn_is e).0 _ (turn_is e).1)

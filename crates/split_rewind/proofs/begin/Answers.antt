@@ -25,7 +25,7 @@ returns-then-a-ne0 c = c.refused.ensures ∙ turn-refused _ c.is_begun.ensures c
 
 pub returns-then-bytes-held_length : goal.returns-then-bytes-held_length
 unfolding begin_call begun held_of
-returns-then-bytes-held_length c = let turn = turn_is c.before.before.before in
+returns-then-bytes-held_length c = let turn = turn_is (goal.at.returns-then-bytes-held_length c).Else-a-ne0 in
     c.refused-then-bytes-held_length.ensures
     ∙ sym (in-turn _ turn.0 _ turn.1 ∙ rw (ne_eqb _ _ (λ e. c.if-bytes-held_length.true (e ∙ sym c.held_length.ensures))))
 
@@ -35,14 +35,14 @@ held_differs-requires c = omega (arith, c.if-bytes-held_length.false, c.held_len
 
 pub returns-then-held_differs : goal.returns-then-held_differs
 unfolding begin_call begun held_of
-returns-then-held_differs c = let h = c.before.before.before in
-    let turn = turn_is h.before.before in
+returns-then-held_differs c = let h = (goal.at.returns-then-held_differs c).Else-bytes-held_length in
+    let turn = turn_is (goal.at.returns-then-held_differs c).Else-a-ne0 in
     c.refused-then-held_differs.ensures
     ∙ sym (in-turn _ turn.0 _ turn.1 ∙ rw (as-held h, sym c.held_differs.ensures ∙ c.if-held_differs.true))
 
 pub returns : goal.returns
 unfolding begin_call begun held_of
-returns c = let h = c.before.before in
-    let turn = turn_is h.before.before in
+returns c = let h = (goal.at.returns c).Else-bytes-held_length in
+    let turn = turn_is (goal.at.returns c).Else-a-ne0 in
     c.stepped.ensures
     ∙ sym (in-turn _ turn.0 _ turn.1 ∙ rw (as-held h, sym c.held_differs.ensures ∙ c.if-held_differs.false, c.zero_bytes-zeros.ensures))

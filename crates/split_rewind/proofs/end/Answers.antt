@@ -21,5 +21,5 @@ in_turn-requires c = ((turn_is c).0, not-false _ (turn_is c).1)
 
 pub returns : goal.returns
 unfolding end_call
-returns c = let turn = turn_is c.before in
+returns c = let turn = turn_is (goal.at.returns c).Else-a-ne0 in
     c.in_turn.ensures ∙ sym (in-turn _ turn.0 _ turn.1)

@@ -17,15 +17,15 @@ returns-then-a-ne0 c = c.refused.ensures ∙ turn-refused _ (ap not c.is_begun.e
 
 pub returns-then-no_block : goal.returns-then-no_block
 unfolding hand_back_call
-returns-then-no_block c = let turn = turn_is c.before.before.before in
+returns-then-no_block c = let turn = turn_is (goal.at.returns-then-no_block c).Else-a-ne0 in
     c.refused-then-no_block.ensures ∙ sym (in-turn _ turn.0 _ turn.1 ∙ rw (sym c.no_block.ensures ∙ c.if-no_block.true))
 
 pub handed_back-next-requires : goal.handed_back-next-requires
 unfolding hand_back_call
-handed_back-next-requires c = let turn = turn_is c.before.before in
+handed_back-next-requires c = let turn = turn_is (goal.at.handed_back-next-requires c).Else-a-ne0 in
     (turn.0, not-false _ turn.1, sym c.no_block.ensures ∙ c.if-no_block.false)
 
 pub returns : goal.returns
 unfolding hand_back_call
-returns c = let turn = turn_is c.before.before in
+returns c = let turn = turn_is (goal.at.returns c).Else-a-ne0 in
     c.stepped.ensures ∙ sym (in-turn _ turn.0 _ turn.1 ∙ rw (sym c.no_block.ensures ∙ c.if-no_block.false, c.handed_back-next.ensures))

@@ -13,11 +13,11 @@ few z = omega (arith, handed-most z.args.r z.requires.0 z.requires.1, (sounds z.
 
 pub overflow_mul-result : goal.overflow_mul-result
 unfolding handed limit
-overflow_mul-result c = record { fits = rw c.block_bytes.ensures (omega (arith, few c.before.before)) }
+overflow_mul-result c = record { fits = rw c.block_bytes.ensures (omega (arith, few (goal.at.overflow_mul-result c).Start)) }
 
 pub overflow_add-result : goal.overflow_add-result
 unfolding handed limit
-overflow_add-result c = record { fits = rw (c.block_bytes.ensures, c.held_length.ensures) (omega (arith, few c.before.before.before)) }
+overflow_add-result c = record { fits = rw (c.block_bytes.ensures, c.held_length.ensures) (omega (arith, few (goal.at.overflow_add-result c).Start)) }
 
 pub returns : goal.returns
 unfolding handed limit

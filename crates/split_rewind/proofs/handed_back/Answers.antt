@@ -27,16 +27,16 @@ module _ (z : Start) where
 
 pub backward-run-requires : goal.backward-run-requires
 unfolding handed_back held_of limit
-backward-run-requires c = let z = c.before.before.before in
+backward-run-requires c = let z = (goal.at.backward-run-requires c).Start in
     ((sounds (R z) z.requires.0).word, second-chain (R z) z.requires.0 z.requires.1 (words z))
 
 pub zero_filled-back-requires : goal.zero_filled-back-requires
 unfolding handed_back held_of limit
-zero_filled-back-requires c = let z = c.before.before.before.before.before in omega (arith, (block z).0, block-most (R z).w)
+zero_filled-back-requires c = let z = (goal.at.zero_filled-back-requires c).Start in omega (arith, (block z).0, block-most (R z).w)
 
 pub overflow_add-result : goal.overflow_add-result
 unfolding handed_back held_of limit
-overflow_add-result c = let z = c.before.before.before.before.before.before.before in
+overflow_add-result c = let z = (goal.at.overflow_add-result c).Start in
     record { fits = omega (arith, (block z).1, div-le_self (R z).total (block_bytes (size_of (R z).w)), (sounds (R z) z.requires.0).few) }
 
 pub returns : goal.returns

@@ -18,7 +18,7 @@ handed-size-requires c = c.requires
 
 pub returns-then-keeps_too_much : goal.returns-then-keeps_too_much
 unfolding end_in_turn end_cut
-returns-then-keeps_too_much c = c.refused.ensures ∙ rw (sym (test-is c.before.before) ∙ c.if-keeps_too_much.true)
+returns-then-keeps_too_much c = c.refused.ensures ∙ rw (sym (test-is (goal.at.returns-then-keeps_too_much c).After-keeps_too_much) ∙ c.if-keeps_too_much.true)
 
 pub remaining-requires : goal.remaining-requires
 unfolding end_in_turn end_cut
@@ -26,4 +26,4 @@ remaining-requires c = (c.requires.0, c.requires.1, c.handed-size.ensures, sym c
 
 pub returns : goal.returns
 unfolding end_in_turn end_cut
-returns c = c.remaining.ensures ∙ rw (sym (test-is c.before.before) ∙ c.if-keeps_too_much.false, c.handed-size.ensures)
+returns c = c.remaining.ensures ∙ rw (sym (test-is (goal.at.returns c).After-keeps_too_much) ∙ c.if-keeps_too_much.false, c.handed-size.ensures)

@@ -22,7 +22,7 @@ module _ (z : Start) where
   abbrev R : Record
   R = z.args.r
 
-  long : length R.held-1 ≡ longest_block
+  long : length R.held ≡ longest_block
   long = search rules
 
   back_long : length R.split.back ≡ longest_block
@@ -46,22 +46,22 @@ module _ (z : Start) where
 
 -- the block handed back last
 block_in : (c : After-block_bytes-b) → c.block_bytes-b.result ≤ length c.args.r.split.back
-block_in c = let z = c.before.before.before.before.before.before in omega (arith, c.block_bytes-b.ensures, block-most (R z).w, back_long z)
+block_in c = let z = (goal.at.After-block_bytes-b c).Start in omega (arith, c.block_bytes-b.ensures, block-most (R z).w, back_long z)
 
 block-length : (c : After-block_bytes-b) → length (take c.block_bytes-b.result c.args.r.split.back) ≡ c.block_bytes-b.result
 block-length c = length-take-le _ c.args.r.split.back (block_in c)
 
 pub slice_bounds-held-end : goal.slice_bounds-held-end
 unfolding last_bytes held_bytes
-slice_bounds-held-end c = let z = c.before.before.before.before.before.before in fill-in (R z) (long z) c.held_length-at.ensures
+slice_bounds-held-end c = let z = (goal.at.slice_bounds-held-end c).Start in fill-in (R z) (long z) c.held_length-at.ensures
 
 pub slice_bounds-cut-end : goal.slice_bounds-cut-end
 unfolding last_bytes held_bytes
-slice_bounds-cut-end c = let z = c.before.before.before.before.before.before.before in sym (length-take-le _ (R z).held-1 (fill-in (R z) (long z) c.held_length-at.ensures))
+slice_bounds-cut-end c = let z = (goal.at.slice_bounds-cut-end c).Start in sym (length-take-le _ (R z).held (fill-in (R z) (long z) c.held_length-at.ensures))
 
 pub cut-requires : goal.cut-requires
 unfolding last_bytes held_bytes
-cut-requires c = let z = c.before.before.before.before.before.before.before in
+cut-requires c = let z = (goal.at.cut-requires c).Start in
     ((ready z).0, (ready z).1, (ready z).2, (few z).0, (few z).1, rw c.held_length-at.ensures (held_all z c.if-blocks-eq0.true))
 
 pub returns-then-blocks-eq0 : goal.returns-then-blocks-eq0
@@ -73,12 +73,12 @@ slice_bounds-back-end c = block_in c
 
 pub slice_bounds-cut-end-2 : goal.slice_bounds-cut-end-2
 unfolding last_bytes held_bytes
-slice_bounds-cut-end-2 c = sym (block-length c.before)
+slice_bounds-cut-end-2 c = sym (block-length (goal.at.slice_bounds-cut-end-2 c).After-block_bytes-b)
 
 pub cut-requires-2 : goal.cut-requires-2
 unfolding last_bytes held_bytes
-cut-requires-2 c = let z = c.before.before.before.before.before.before.before in
-    ((ready z).0, (ready z).1, (ready z).2, (few z).0, (few z).1, omega (arith, block-length c.before, c.block_bytes-b.ensures, (few z).1))
+cut-requires-2 c = let z = (goal.at.cut-requires-2 c).Start in
+    ((ready z).0, (ready z).1, (ready z).2, (few z).0, (few z).1, omega (arith, block-length (goal.at.cut-requires-2 c).After-block_bytes-b, c.block_bytes-b.ensures, (few z).1))
 
 pub returns : goal.returns
 unfolding last_bytes held_bytes

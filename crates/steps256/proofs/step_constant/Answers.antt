@@ -7,3 +7,19 @@ use Rattle.steps256.proofs.step_constant.Goals as goal
 pub returns : goal.returns
 unfolding lsh256
 returns c = at_constant lsh256 c.args.sc.now c.requires.0 c.args.j c.args.l (omega arith) (omega arith)
+
+pub bounds-sc-j : goal.bounds-sc-j
+unfolding lsh256
+bounds-sc-j c = search rules
+
+pub offset_bounds-sc-j : goal.offset_bounds-sc-j
+unfolding lsh256
+offset_bounds-sc-j c = search rules
+
+pub overflow_add-result : goal.overflow_add-result
+unfolding lsh256
+overflow_add-result c = search rules
+
+pub overflow_mul-result : goal.overflow_mul-result
+unfolding lsh256
+overflow_mul-result c = search rules

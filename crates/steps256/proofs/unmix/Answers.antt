@@ -21,7 +21,7 @@ unmix_lane-p-requires c = (amounts256.α c.args.j, amounts256.β c.args.j, amoun
 
 pub loop-l-preserved : goal.loop-l-preserved
 unfolding lsh256 alpha beta gamma unmix
-loop-l-preserved c = laned-more _ _ c.loop-l.invariant c.loop-l-test.true (unmixed-is lsh256 c.args.j c.loop-l.l c.args.t3 c.step_constant.ensures c.unmix_lane-p.ensures)
+loop-l-preserved c = laned-more _ _ c.loop-l.invariant c.loop-l-test.true (unmixed-is lsh256 c.args.j c.loop-l.l c.args.t c.step_constant.ensures c.unmix_lane-p.ensures)
 
 pub returns : goal.returns
 unfolding lsh256 alpha beta gamma unmix

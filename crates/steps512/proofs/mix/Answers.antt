@@ -21,7 +21,7 @@ mix_lane-p-requires c = (amounts512.α c.args.j, amounts512.β c.args.j, amounts
 
 pub loop-l-preserved : goal.loop-l-preserved
 unfolding lsh512 alpha beta gamma mix
-loop-l-preserved c = laned-more _ _ c.loop-l.invariant c.loop-l-test.true (mixed-is lsh512 c.args.j c.loop-l.l c.args.t3 c.step_constant.ensures c.mix_lane-p.ensures)
+loop-l-preserved c = laned-more _ _ c.loop-l.invariant c.loop-l-test.true (mixed-is lsh512 c.args.j c.loop-l.l c.args.t c.step_constant.ensures c.mix_lane-p.ensures)
 
 pub returns : goal.returns
 unfolding lsh512 alpha beta gamma mix

@@ -9,7 +9,7 @@ use Rattle.limits.proofs.Limits.{digest-longest}
 use Rattle.tags.specs.Check.{check_call}
 use Rattle.tags.proofs.Accepted.{Keyed, keyed}
 use Rattle.tag.proofs.check.Goals as goal
-use Rattle.tag.proofs.check.Goals.{Else-a-ne0}
+use Rattle.tag.proofs.check.Goals.{After-hmac-t, Else-a-ne0}
 
 -- the call is accepted
 passed : (c : Else-a-ne0)
@@ -21,7 +21,7 @@ passed c =
 -- the tag fits into its array
 pub slice_bounds-t-end : goal.slice_bounds-t-end
 slice_bounds-t-end c = let long : length c.hmac-t.result ≡ longest_block = search rules in
-    omega (arith, digest-longest _ _ (passed c.before).word_size (passed c.before).digest_length)
+    omega (arith, digest-longest _ _ (passed (goal.at.slice_bounds-t-end c).Else-a-ne0).word_size (passed (goal.at.slice_bounds-t-end c).Else-a-ne0).digest_length)
 
 pub returns-then-a-ne0 : goal.returns-then-a-ne0
 unfolding check_call
@@ -33,7 +33,7 @@ hmac-t-requires c = ((passed c).word_size, (passed c).digest_length, (passed c).
 
 pub slice_bounds-equal_bytes-end : goal.slice_bounds-equal_bytes-end
 unfolding check_call
-slice_bounds-equal_bytes-end c = sym (length-take-le _ _ (slice_bounds-t-end c.before))
+slice_bounds-equal_bytes-end c = sym (length-take-le _ _ (slice_bounds-t-end (goal.at.slice_bounds-equal_bytes-end c).After-hmac-t))
 
 pub returns : goal.returns
 unfolding check_call

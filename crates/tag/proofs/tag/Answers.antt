@@ -21,7 +21,7 @@ passed : (c : Else-a-ne0)
     × (tag_bytes (start c).args.n ≤ length (start c).args.output.now)
 passed c =
     let a = (start c).args in
-    tag-accepted a.w a.n (length a.key.now) (length a.message.now) (length a.output-1.now) (sym c.answer-a.ensures ∙ c.if-a-ne0.false)
+    tag-accepted a.w a.n (length a.key.now) (length a.message.now) (length a.output.now) (sym c.answer-a.ensures ∙ c.if-a-ne0.false)
 
 pub returns-then-a-ne0 : goal.returns-then-a-ne0
 unfolding tag_output
@@ -34,12 +34,12 @@ hmac-requires c = ((passed c).0.word_size, (passed c).0.digest_length, (passed c
 
 pub write_tag-requires : goal.write_tag-requires
 unfolding tag_output
-write_tag-requires c = let p = c.before.before in
+write_tag-requires c = let p = (goal.at.write_tag-requires c).Else-a-ne0 in
     (omega (arith, digest-longest _ _ (passed p).0.word_size (passed p).0.digest_length), (passed p).1)
 
 pub returns : goal.returns
 unfolding tag_output
-returns c = let p = c.before.before.before.before.before in
+returns c = let p = (goal.at.returns c).Else-a-ne0 in
     let a = (start p).args in
-    written-output _ _ _ a.output-1.now (sym p.answer-a.ensures ∙ p.if-a-ne0.false)
+    written-output _ _ _ a.output.now (sym p.answer-a.ensures ∙ p.if-a-ne0.false)
     c.hmac.ensures c.write_tag.ensures

@@ -18,12 +18,12 @@ returns-then-not-is_sound c = rw (sym c.is_sound.ensures ∙ c.if-not-is_sound.t
 
 pub returns-then-r-ne0 : goal.returns-then-r-ne0
 unfolding finish_answer is_whole_bytes limit
-returns-then-r-ne0 c = rw (taken c.before.before, ne_eqb _ 0 c.if-r-ne0.true)
+returns-then-r-ne0 c = rw (taken (goal.at.returns-then-r-ne0 c).Else-not-is_sound, ne_eqb _ 0 c.if-r-ne0.true)
 
 pub returns-then-key-gt-LIMIT : goal.returns-then-key-gt-LIMIT
 unfolding finish_answer is_whole_bytes limit
-returns-then-key-gt-LIMIT c = rw (taken c.before.before.before, eq-eqb _ 0 c.if-r-ne0.false, lt-ltb limit _ c.if-key-gt-LIMIT.true)
+returns-then-key-gt-LIMIT c = rw (taken (goal.at.returns-then-key-gt-LIMIT c).Else-not-is_sound, eq-eqb _ 0 c.if-r-ne0.false, lt-ltb limit _ c.if-key-gt-LIMIT.true)
 
 pub returns : goal.returns
 unfolding finish_answer is_whole_bytes limit
-returns c = rw (taken c.before.before.before.before, eq-eqb _ 0 c.if-r-ne0.false, le-ltb limit _ c.if-key-gt-LIMIT.false) c.room_answer.ensures
+returns c = rw (taken (goal.at.returns c).Else-not-is_sound, eq-eqb _ 0 c.if-r-ne0.false, le-ltb limit _ c.if-key-gt-LIMIT.false) c.room_answer.ensures

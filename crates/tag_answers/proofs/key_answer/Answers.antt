@@ -30,17 +30,17 @@ is_digest_length-requires c = sym c.is_word_size.ensures ∙ c.if-not-is_word_si
 
 pub returns-then-not-is_digest_length : goal.returns-then-not-is_digest_length
 unfolding key_answer is_whole_bytes limit
-returns-then-not-is_digest_length c = rw (word c.before.before, sym c.is_digest_length.ensures ∙ c.if-not-is_digest_length.true)
+returns-then-not-is_digest_length c = rw (word (goal.at.returns-then-not-is_digest_length c).Else-not-is_word_size, sym c.is_digest_length.ensures ∙ c.if-not-is_digest_length.true)
 
 pub returns-then-n-ne0 : goal.returns-then-n-ne0
 unfolding key_answer is_whole_bytes limit
-returns-then-n-ne0 c = rw (word c.before.before.before, digest c.before, ne_eqb _ 0 c.if-n-ne0.true)
+returns-then-n-ne0 c = rw (word (goal.at.returns-then-n-ne0 c).Else-not-is_word_size, digest (goal.at.returns-then-n-ne0 c).Else-not-is_digest_length, ne_eqb _ 0 c.if-n-ne0.true)
 
 pub returns-then-key-block_bytes : goal.returns-then-key-block_bytes
 unfolding key_answer is_whole_bytes limit
 returns-then-key-block_bytes c = rw (
-  word c.before.before.before.before.before,
-  digest c.before.before.before,
+  word (goal.at.returns-then-key-block_bytes c).Else-not-is_word_size,
+  digest (goal.at.returns-then-key-block_bytes c).Else-not-is_digest_length,
   eq-eqb _ 0 c.if-n-ne0.false,
   tests-length _ _ _ c.block_bytes.ensures c.if-key-block_bytes.true,
 )
@@ -48,8 +48,8 @@ returns-then-key-block_bytes c = rw (
 pub returns : goal.returns
 unfolding key_answer is_whole_bytes limit
 returns c = rw (
-  word c.before.before.before.before.before,
-  digest c.before.before.before,
+  word (goal.at.returns c).Else-not-is_word_size,
+  digest (goal.at.returns c).Else-not-is_digest_length,
   eq-eqb _ 0 c.if-n-ne0.false,
   tests-length _ _ _ c.block_bytes.ensures c.if-key-block_bytes.false,
 )

@@ -33,11 +33,11 @@ all_agree-requires c = (
 
 pub returns-then-all_agree : goal.returns-then-all_agree
 unfolding most_receipts
-returns-then-all_agree c = found _ _ _ _ c.loop-j.invariant.1 (omega arith) (sym (compared c.before) ∙ c.if-all_agree.true)
+returns-then-all_agree c = found _ _ _ _ c.loop-j.invariant.1 (omega arith) (sym (compared (goal.at.returns-then-all_agree c).After-all_agree) ∙ c.if-all_agree.true)
 
 pub loop-j-preserved-else-all_agree : goal.loop-j-preserved-else-all_agree
 unfolding most_receipts
-loop-j-preserved-else-all_agree c = (omega arith, not_found _ _ _ _ c.loop-j.invariant.1 (omega arith) (sym (compared c.before) ∙ c.if-all_agree.false))
+loop-j-preserved-else-all_agree c = (omega arith, not_found _ _ _ _ c.loop-j.invariant.1 (omega arith) (sym (compared (goal.at.loop-j-preserved-else-all_agree c).After-all_agree) ∙ c.if-all_agree.false))
 
 pub loop-j-preserved : goal.loop-j-preserved
 unfolding most_receipts

@@ -20,7 +20,7 @@ passed : (c : Else-a-ne0)
     → Accepted (start c).args.w (start c).args.n (length (start c).args.message.now) (start c).args.last (start c).args.e (length (start c).args.output.now)
 passed c =
     let a = (start c).args in
-    accepted a.w a.n (length a.message.now) a.last a.e (length a.output-1.now) (sym c.answer-a.ensures ∙ c.if-a-ne0.false)
+    accepted a.w a.n (length a.message.now) a.last a.e (length a.output.now) (sym c.answer-a.ensures ∙ c.if-a-ne0.false)
 
 pub returns-then-a-ne0 : goal.returns-then-a-ne0
 unfolding limit whole_output
@@ -44,23 +44,23 @@ pad_byte-pad-requires c = ((passed c).end.extra, (passed c).end.low)
 
 pub opening-requires : goal.opening-requires
 unfolding limit whole_output
-opening-requires c = ((passed c.before).word_size, digest-most _ _ (passed c.before).digest_length)
+opening-requires c = ((passed (goal.at.opening-requires c).Else-a-ne0).word_size, digest-most _ _ (passed (goal.at.opening-requires c).Else-a-ne0).digest_length)
 
 pub message_chain-t-requires : goal.message_chain-t-requires
 unfolding limit whole_output
-message_chain-t-requires c = let p = c.before.before in
+message_chain-t-requires c = let p = (goal.at.message_chain-t-requires c).Else-a-ne0 in
     ((passed p).word_size, opened-chain _ _ c.opening.ensures)
 
 pub write_receipt-requires : goal.write_receipt-requires
 unfolding limit whole_output
-write_receipt-requires c = let p = c.before.before.before.before in
+write_receipt-requires c = let p = (goal.at.write_receipt-requires c).Else-a-ne0 in
     let z = start p in
     let a = passed p in
     (a.word_size, digest-most _ _ a.digest_length, run-chain _ _ (opened-chain _ _ c.opening.ensures) c.message_chain-t.ensures, a.end.room)
 
 pub returns : goal.returns
 unfolding limit whole_output
-returns c = let p = c.before.before.before.before.before.before.before in
+returns c = let p = (goal.at.returns c).Else-a-ne0 in
     let z = start p in
     written-output _ _ _ z.args.output.now
     (sym p.answer-a.ensures ∙ p.if-a-ne0.false)
