@@ -22,7 +22,7 @@ backward_block-before-requires c = (c.step_constants-sc.ensures, c.loop-left.inv
 
 pub loop-left-preserved : goal.loop-left-preserved
 unfolding lsh512 block_bytes expanded_words
-loop-left-preserved c = (run-backward-more _ c.loop-left.invariant.0 c.loop-left-test.true c.backward_block-before.ensures, c.backward_block-before.auto.1.0 ∙ c.loop-left.invariant.1)
+loop-left-preserved c = (run-backward-more _ c.loop-left.invariant.0 c.loop-left-test.true c.backward_block-before.ensures, c.backward_block-before.auto.m ∙ c.loop-left.invariant.1)
 
 pub returns : goal.returns
 unfolding lsh512 block_bytes expanded_words

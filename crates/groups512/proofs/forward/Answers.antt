@@ -22,7 +22,7 @@ forward_block-next-requires c = (c.step_constants-sc.ensures, c.loop-count.invar
 
 pub loop-count-preserved : goal.loop-count-preserved
 unfolding lsh512 block_bytes expanded_words
-loop-count-preserved c = (run-forward-more _ c.loop-count.invariant.0 c.loop-count-test.true c.forward_block-next.ensures, c.forward_block-next.auto.1.0 ∙ c.loop-count.invariant.1, c.loop-count.invariant.2)
+loop-count-preserved c = (run-forward-more _ c.loop-count.invariant.0 c.loop-count-test.true c.forward_block-next.ensures, c.forward_block-next.auto.m ∙ c.loop-count.invariant.1, c.loop-count.invariant.2)
 
 pub returns : goal.returns
 unfolding lsh512 block_bytes expanded_words

@@ -1,5 +1,5 @@
 use Prim.Native.Nat.{◌%◌}
-use borrow.Author.Rules.{rules, elem_fits}
+use borrow.Author.Rules.{rules, elem_Fits}
 use mir.Syntax.{w32}
 use Rattle.lsh.specs.WordSize.{lsh256}
 use Rattle.lsh.proofs.Figures.{amounts256}
@@ -33,7 +33,7 @@ returns c = let z = c.before.before.before.before.before.before.before in
       c.turn_each.ensures.1,
       c.subtract-x1.ensures,
       c.turn_by_powers-y1.ensures (remaining lsh256) remaining-less z.requires.1,
-      remaining-is lsh256 amounts256 (z.args.j % 4) z.args.l z.args.y (λ i. (elem_fits w32 w32 z.args.y _ i z.well_formed.1.1.1.1.1.1.0.1.1 tt).fits),
+      remaining-is lsh256 amounts256 (z.args.j % 4) z.args.l z.args.y (λ i. (elem_Fits w32 w32 z.args.y _ i z.well_formed.1.1.1.1.1.1.0.1.1 tt).fits),
       z.requires.0,
       (k z).α,
       (k z).β,
