@@ -41,3 +41,7 @@ loop-j-preserved c = let j : ℕ = c.loop-j.j - 1 in
 pub returns : goal.returns
 unfolding lsh256 expanded_words
 returns c = λ u h. unstepped-is (c.loop-j.invariant.0 u h) (omega arith)
+
+pub overflow_add-steps : goal.overflow_add-steps
+unfolding lsh256 expanded_words
+overflow_add-steps c = omega arith

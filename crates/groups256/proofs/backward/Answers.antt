@@ -27,3 +27,15 @@ loop-left-preserved c = (run-backward-more _ c.loop-left.invariant.0 c.loop-left
 pub returns : goal.returns
 unfolding lsh256 block_bytes expanded_words
 returns c = run-backward-all c.loop-left.invariant.0 c.loop-left-test.false
+
+pub overflow_add-e : goal.overflow_add-e
+unfolding lsh256 block_bytes expanded_words
+overflow_add-e c = omega arith
+
+pub overflow_mul-a : goal.overflow_mul-a
+unfolding lsh256 block_bytes expanded_words
+overflow_mul-a c = omega arith
+
+pub slice_bounds-backward_block-end-in-loop-left : goal.slice_bounds-backward_block-end-in-loop-left
+unfolding lsh256 block_bytes expanded_words
+slice_bounds-backward_block-end-in-loop-left c = omega arith

@@ -12,3 +12,11 @@ pub returns : goal.returns
 unfolding lsh256 expanded_words
 returns c = run-back (expanded-stored _ _ (length-words lsh256 32 _) (omega arith) c.load_block.ensures c.expand.ensures) refl _
     (c.all_unsteps.ensures _ (unstepped-none _ c.sub_message.ensures c.add_message-r.ensures))
+
+pub load_block-requires : goal.load_block-requires
+unfolding lsh256 expanded_words
+load_block-requires c = search rules
+
+pub sub_message-requires : goal.sub_message-requires
+unfolding lsh256 expanded_words
+sub_message-requires c = search rules

@@ -26,12 +26,12 @@ expand_row-requires c = omega (arith, c.loop-count.invariant.1)
 
 pub step-u-requires : goal.step-u-requires
 unfolding lsh256 expanded_words
-step-u-requires c = let size : length c.expand_row.new.0 ≡ 448 = ap length c.expand_row.ensures ∙ (simp length-sets) ∙ c.loop-count.invariant.1 ∙ c.requires.4 in
+step-u-requires c = let size : length c.expand_row.new.m ≡ 448 = ap length c.expand_row.ensures ∙ (simp length-sets) ∙ c.loop-count.invariant.1 ∙ c.requires.4 in
     (c.constants-c.ensures, c.requires.1, c.shifts.ensures, omega arith)
 
 pub loop-count-preserved : goal.loop-count-preserved
 unfolding lsh256 expanded_words
-loop-count-preserved c = let odd : c.loop-count.count % 2 ≡ 1 = eqb-true (c.loop-count.count % 2) 1 c.if-count-eq1.true in (
+loop-count-preserved c = let odd : c.loop-count.count % 2 ≡ 1 = c.if-count-eq1.true in (
   λ n u h. ahead_more _ _ (c.loop-count.invariant.0 n u h) (omega (arith, h.len)) c.expand_row.ensures c.step-u.ensures,
   ap length c.expand_row.ensures ∙ (simp length-sets) ∙ c.loop-count.invariant.1,
   omega arith,
@@ -41,7 +41,7 @@ loop-count-preserved c = let odd : c.loop-count.count % 2 ≡ 1 = eqb-true (c.lo
 
 pub returns-else-count-eq1 : goal.returns-else-count-eq1
 unfolding lsh256 expanded_words
-returns-else-count-eq1 c = (c.loop-count.invariant.0, omega (arith, eqb-false (c.loop-count.count % 2) 1 c.if-count-eq1.false))
+returns-else-count-eq1 c = (c.loop-count.invariant.0, omega (arith, c.if-count-eq1.false))
 
 pub returns-after-loop-count : goal.returns-after-loop-count
 unfolding lsh256 expanded_words

@@ -1,11 +1,11 @@
 use mathlib.Core.Path.{◌∙◌}
-use mathlib.Core.Logic.{⊎_elim}
 use Prim.Native.Nat.{◌-◌, ◌*◌, ◌≤◌}
 use native.Mathlib.Omega.{arith}
 use borrow.Author.Rules.{rules}
 use Rattle.lsh.specs.WordSize.{lsh512}
 use Rattle.loops.proofs.Turns.{Stepped, stepped-none, stepped-is, stepped-one, stepped-two, stepped-all}
 use Rattle.groups512.proofs.all_steps.Goals as goal
+use Rattle.groups512.proofs.all_steps.Goals.{then-steps-eq1, else-steps-eq1}
 
 pub loop-k-init : goal.loop-k-init
 unfolding lsh512
@@ -17,8 +17,9 @@ loop-k-preserved c = (stepped-two _ c.loop-k.invariant.0 (omega arith) c.two_ste
 
 pub returns : goal.returns
 unfolding lsh512
-returns c = let h = c.loop-k.invariant.0 in
-    ⊎_elim
-    (λ w. stepped-all (stepped-one (stepped-is h (omega arith)) (omega arith) w.1.ensures (w.3 ∙ w.2.ensures)) (omega arith) c.sub_message-2.ensures c.add_message.ensures)
-    (λ w. stepped-all h (omega arith) c.sub_message-2.ensures (rw w.1 at c.add_message.ensures))
-    c.if-steps-eq1.branch
+returns c =
+    let h = c.loop-k.invariant.0 in
+    elim c.if-steps-eq1.branch [
+      | then-steps-eq1 w ↦ stepped-all (stepped-one (stepped-is h (omega arith)) (omega arith) w.sub_message.ensures (w.r-is ∙ w.step-u.ensures)) (omega arith) c.sub_message-2.ensures c.add_message.ensures
+      | else-steps-eq1 w ↦ stepped-all h (omega arith) c.sub_message-2.ensures (rw w.r-is at c.add_message.ensures)
+    ]
