@@ -71,3 +71,11 @@ returns c = let none : c.args.steps - c.loop-i.i ≡ 0 = omega arith in (
   λ b e. unstepped-last lsh256 b _ none (c.loop-i.invariant.1 b e),
   λ b e. from-up_to (c.loop-i.invariant.2 b e) (omega arith),
 )
+
+pub overflow_add-k : goal.overflow_add-k
+unfolding lsh256 expanded_words
+overflow_add-k c = omega arith
+
+pub overflow_add-n : goal.overflow_add-n
+unfolding lsh256 expanded_words
+overflow_add-n c = omega arith

@@ -34,3 +34,11 @@ loop-left-preserved c = (
 pub returns : goal.returns
 unfolding lsh256 block_bytes expanded_words
 returns c = run-backward-all c.loop-left.invariant.0 c.loop-left-test.false
+
+pub backward_block-before-requires : goal.backward_block-before-requires
+unfolding lsh256 block_bytes expanded_words
+backward_block-before-requires c = search rules
+
+pub expand-requires : goal.expand-requires
+unfolding lsh256 block_bytes expanded_words
+expand-requires c = search rules

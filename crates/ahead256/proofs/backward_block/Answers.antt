@@ -16,3 +16,11 @@ returns c = (
       ∙ ap (unsteps lsh256 b c.args.steps) (c.add_message-r.ensures ∙ ap (add_message lsh256 c.args.t) (c.sub_message.ensures ∙ e.rows c.args.steps (le_refl _))),
   c.all_unsteps.ensures.2,
 )
+
+pub overflow_add-k : goal.overflow_add-k
+unfolding lsh256 expanded_words backward_steps
+overflow_add-k c = omega arith
+
+pub sub_message-requires : goal.sub_message-requires
+unfolding lsh256 expanded_words backward_steps
+sub_message-requires c = omega arith

@@ -18,3 +18,15 @@ returns-then-i-gt0 c = (loaded-kept _ _ _ _ c.load.ensures (omega arith), λ som
 pub returns-else-i-gt0 : goal.returns-else-i-gt0
 unfolding lsh256 block_bytes
 returns-else-i-gt0 c = (kept-none _ _ _, λ some. absurd (omega arith))
+
+pub overflow_add-e : goal.overflow_add-e
+unfolding lsh256 block_bytes
+overflow_add-e c = omega arith
+
+pub overflow_mul-a : goal.overflow_mul-a
+unfolding lsh256 block_bytes
+overflow_mul-a c = omega arith
+
+pub slice_bounds-load-end : goal.slice_bounds-load-end
+unfolding lsh256 block_bytes
+slice_bounds-load-end c = omega arith

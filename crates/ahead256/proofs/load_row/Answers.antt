@@ -21,3 +21,7 @@ loop-l-preserved c = filled_more _ c.loop-l.invariant c.loop-l-test.true (omega 
 pub returns : goal.returns
 unfolding row words_of word_bytes block_bytes lsh256
 returns c = filled-all c.loop-l.invariant c.loop-l-test.false refl
+
+pub load-requires : goal.load-requires
+unfolding row words_of word_bytes block_bytes lsh256
+load-requires c = omega arith

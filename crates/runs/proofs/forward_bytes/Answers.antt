@@ -29,3 +29,11 @@ store_chain-requires-2 c = c.requires.1 ∙ ap chain_bytes (size_64 _ c.requires
 pub returns : goal.returns
 unfolding lsh256 lsh512 forwards
 returns c = bytes-by forwards _ _ _ (size_64 _ c.requires.0 c.if-w-eq32.false) c.load_chain-t-2.ensures c.forward_steps64-run.ensures.0 c.store_chain-2.ensures
+
+pub forward_steps32-run-requires : goal.forward_steps32-run-requires
+unfolding lsh256 lsh512 forwards
+forward_steps32-run-requires c = search rules
+
+pub forward_steps64-run-requires : goal.forward_steps64-run-requires
+unfolding lsh256 lsh512 forwards
+forward_steps64-run-requires c = search rules

@@ -1,0 +1,20 @@
+use Rattle.lsh.specs.Block.{forwards}
+use Rattle.lsh.specs.WordSize.{lsh256}
+use borrow.Author.Rules.{rules}
+use Rattle.runs.proofs.forward32.Goals as goal
+
+pub forward-requires : goal.forward-requires
+unfolding lsh256 forwards
+forward-requires c = search rules
+
+pub forward-requires-in-Groups : goal.forward-requires-in-Groups
+unfolding lsh256 forwards
+forward-requires-in-Groups c = search rules
+
+pub returns-in-Groups : goal.returns-in-Groups
+unfolding lsh256 forwards
+returns-in-Groups c = search rules
+
+pub returns-in-Words : goal.returns-in-Words
+unfolding lsh256 forwards
+returns-in-Words c = search rules
