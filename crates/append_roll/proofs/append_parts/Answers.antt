@@ -21,7 +21,7 @@ use Rattle.append_roll.proofs.append_parts.Goals as goal
 use Rattle.append_roll.proofs.append_parts.Goals.{After-loop-at, After-to_checkpoint-first, At-loop-at, Else-piece-first, In-loop-at, Start}
 
 -- at the entry
-module _ (z : Start invariant-loop decreases-loop) where
+module _ (z : Start) where
   abbrev R : Record
   R = z.args.r
 
@@ -41,9 +41,9 @@ module _ (z : Start invariant-loop decreases-loop) where
   is = sounds R pass.sound_record
 
 -- the first checkpoint is reached
-module _ (c : Else-piece-first invariant-loop decreases-loop) where
-  abbrev begun : Start invariant-loop decreases-loop
-  begun = c.before.before.before.before
+module _ (c : Else-piece-first) where
+  abbrev begun : Start
+  begun = (goal.at.Else-piece-first c).Start
 
   abbrev first : ℕ
   first = c.to_checkpoint-first.result
@@ -58,7 +58,7 @@ module _ (c : Else-piece-first invariant-loop decreases-loop) where
   first-length = length-take-le first (P begun) le
 
 pub first_part-p-requires : goal.first_part-p-requires
-first_part-p-requires c = let e = (goal.at.first_part-p-requires c).After-to_checkpoint-first in
+first_part-p-requires c = let e = (goal.at.first_part-p-requires c).Else-piece-first in
     let z = begun e in
     let of = roll-of (R z) (S z) (pass z).roll_of in (
       (pass z).sound_record,
@@ -69,47 +69,47 @@ first_part-p-requires c = let e = (goal.at.first_part-p-requires c).After-to_che
     )
 
 -- at the head of the loop
-module _ (l : At-loop-at invariant-loop decreases-loop) where
-  abbrev entered : Else-piece-first invariant-loop decreases-loop
-  entered = l.before.before.before.before.before.before.before
+module _ (l : At-loop-at) where
+  abbrev entered : Else-piece-first
+  entered = (goal.at.At-loop-at l).After-to_checkpoint-first
 
-  abbrev from_start : Start invariant-loop decreases-loop
+  abbrev from_start : Start
   from_start = begun entered
 
   abbrev Q : ℕ
-  Q = l.between-checkpoints.result
+  Q = l.between_checkpoints-step.result
 
   step_is : Q ≡ step (R from_start).w
-  step_is = l.between-checkpoints.ensures
+  step_is = l.between_checkpoints-step.ensures
 
-  inserted-first : l.first_part.last.1.1.1.0 ≡ inserted-at (R from_start) (P from_start) (first entered) (S from_start)
-  inserted-first = l.first_part.ensures.2 _
+  inserted-first : l.first_part-p.last.1.1.1.0 ≡ inserted-at (R from_start) (P from_start) (first entered) (S from_start)
+  inserted-first = l.first_part-p.ensures.2 _
 
-  rest-first : (length l.first_part.last.1.1.1.0 ≡ length (S from_start))
-      × (due-after (R from_start) (P from_start) (first entered) l.first_part.last.1.1.1.0 ≡ goal-of (R from_start) (P from_start) (S from_start))
+  rest-first : (length l.first_part-p.last.1.1.1.0 ≡ length (S from_start))
+      × (due-after (R from_start) (P from_start) (first entered) l.first_part-p.last.1.1.1.0 ≡ goal-of (R from_start) (P from_start) (S from_start))
   rest-first =
       first_rest (R from_start) (P from_start) (entry from_start) (first entered) (next entered) (le entered) inserted-first
 
 -- a part to the next checkpoint
-module _ (c : In-loop-at invariant-loop decreases-loop) where
+module _ (c : In-loop-at) where
   abbrev A : ℕ
   A = c.loop-at.at
 
-  abbrev start_of : Start invariant-loop decreases-loop
-  start_of = from_start c.before
+  abbrev start_of : Start
+  start_of = from_start (goal.at.In-loop-at c).At-loop-at
 
   abbrev given : List ℕ
-  given = take (A + Q c.before - A) (drop A (P start_of))
+  given = take (A + Q (goal.at.In-loop-at c).At-loop-at - A) (drop A (P start_of))
 
-  reaches : A + Q c.before ≤ length (P start_of)
+  reaches : A + Q (goal.at.In-loop-at c).At-loop-at ≤ length (P start_of)
   reaches = omega (arith, c.loop-at.invariant.stage.up_to)
 
   reaches_step : A + step (R start_of).w ≤ length (P start_of)
-  reaches_step = rw (← (step_is c.before)) reaches
+  reaches_step = rw (← (step_is (goal.at.In-loop-at c).At-loop-at)) reaches
 
   is-part : given ≡ take (step (R start_of).w) (drop A (P start_of))
   is-part =
-      let e : A + Q c.before - A ≡ step (R start_of).w = omega (arith, step_is c.before) in
+      let e : A + Q (goal.at.In-loop-at c).At-loop-at - A ≡ step (R start_of).w = omega (arith, step_is (goal.at.In-loop-at c).At-loop-at) in
       ap (λ (n : ℕ). take n (drop A (P start_of))) e
 
   given-length : length given ≡ step (R start_of).w
@@ -142,9 +142,9 @@ loop-at-preserved c = let i = (goal.at.loop-at-preserved c).In-loop-at in
     (ap (λ (q : ℕ). A i + q) (step_is (goal.at.loop-at-preserved c).At-loop-at)) e.0 e.1 e.2 e.3
 
 -- the rest
-module _ (c : After-loop-at invariant-loop decreases-loop) where
-  abbrev Y : Start invariant-loop decreases-loop
-  Y = from_start c.before
+module _ (c : After-loop-at) where
+  abbrev Y : Start
+  Y = from_start (goal.at.After-loop-at c).At-loop-at
 
   abbrev E : ℕ
   E = c.loop-at.at
@@ -204,10 +204,10 @@ pub between_checkpoints-step-requires : goal.between_checkpoints-step-requires
 between_checkpoints-step-requires c = tt
 
 pub slice_bounds-first_part-end : goal.slice_bounds-first_part-end
-slice_bounds-first_part-end c = sym (first-length (goal.at.slice_bounds-first_part-end c).After-to_checkpoint-first)
+slice_bounds-first_part-end c = sym (first-length (goal.at.slice_bounds-first_part-end c).Else-piece-first)
 
 pub loop-at-init : goal.loop-at-init
-loop-at-init c = let e = (goal.at.loop-at-init c).After-to_checkpoint-first in
+loop-at-init c = let e = (goal.at.loop-at-init c).Else-piece-first in
     let z = begun e in
     let f = c.first_part-p.ensures in
     first-parted (R z) (P z) (entry z) (first e) (next e) (le e) f.0 f.1 (f.2 _) f.3

@@ -15,7 +15,7 @@ use Rattle.tags.specs.Hmac.{xor_each}
 use Rattle.hmac.proofs.xor_each.Goals as goal
 use Rattle.hmac.proofs.xor_each.Goals.{Start}
 
-fits : (z : Start invariant-loop decreases-loop) (i : ℕ) → Fits w8 (get_or z.args.block i 0)
+fits : (z : Start) (i : ℕ) → Fits w8 (get_or z.args.block i 0)
 fits z i = search rules
 
 pub loop-i-init : goal.loop-i-init

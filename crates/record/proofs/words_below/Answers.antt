@@ -17,7 +17,7 @@ use Rattle.record.proofs.words_below.Goals.{Then-w-eq64}
 word-32 : (w : ℕ) → is_word_size w ≡ true → (w ≡ 64 → ⊥) → w ≡ 32
 word-32 = by_size (λ (w : ℕ). (w ≡ 64 → ⊥) → w ≡ 32) (λ other. refl) (λ other. absurd (other refl))
 
-fits : (c : Then-w-eq64 invariant-loop decreases-loop) (i : ℕ) → Fits w64 (get_or c.args.chain i 0)
+fits : (c : Then-w-eq64) (i : ℕ) → Fits w64 (get_or c.args.chain i 0)
 fits c i = search rules
 
 pub returns-then-c-i : goal.returns-then-c-i

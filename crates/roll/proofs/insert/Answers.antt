@@ -64,7 +64,7 @@ free_in : (c : After-free_slot-i) → (0 < c.free_slot-i.result) × (c.free_slot
 free_in c = rw (free-is c) (within (goal.at.After-free_slot-i c).Start)
 
 -- the roll with the slot written is as long
-written : (c : After-put_slot) → length c.put_slot.new.1.0 ≡ length (S (goal.at.After-put_slot c).Start)
+written : (c : After-put_slot) → length c.put_slot.new.roll ≡ length (S (goal.at.After-put_slot c).Start)
 written c =
     let f = (goal.at.After-put_slot c).After-free_slot-i in
     let z = (goal.at.After-put_slot c).Start in
@@ -79,7 +79,7 @@ inserted-is z s t k slot last chosen = rw (slot, last, chosen)
 pub returns : goal.returns
 returns c = let f = (goal.at.returns c).After-free_slot-i in
     let z = (goal.at.returns c).Start in
-    let bytes : (k : ℕ) → c.put_index.new.1.0 ≡ inserted (Z z) (record { number = k; chain = z.args.t }) (S z) =
+    let bytes : (k : ℕ) → c.put_index.new.roll ≡ inserted (Z z) (record { number = k; chain = z.args.t }) (S z) =
     λ k. c.put_index.ensures ∙ inserted-is (Z z) (S z) z.args.t k c.put_slot.ensures (last z) (free-is f) in (
       bytes,
       c.with_link.ensures ∙ traversal-more (Z z) (ok z) (S z) z.requires.2 (record { number = 0; chain = z.args.t }) z.requires.1 (room z) (traversal z) (free-is f) ∙ ap (traversal_of (Z z)) (sym (bytes 0)),

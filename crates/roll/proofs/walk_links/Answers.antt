@@ -9,16 +9,16 @@ use Rattle.roll.proofs.Walked.{Walked, walked_none, walked-beyond, walked-twice,
 use Rattle.roll.proofs.walk_links.Goals as goal
 use Rattle.roll.proofs.walk_links.Goals.{At-loop-i, Else-marks-i-ne0, Start}
 
-module _ (z : Start invariant-loop decreases-loop) where
+module _ (z : Start) where
   sizes : Sized (size_of z.args.w) z.args.roll.now
   sizes = sized (size_of z.args.w) z.args.roll.now z.requires.0
 
 -- a slot that was not visited before
-module _ (c : Else-marks-i-ne0 invariant-loop decreases-loop) where
-  abbrev at_head : At-loop-i invariant-loop decreases-loop
-  at_head = c.before.before.before
+module _ (c : Else-marks-i-ne0) where
+  abbrev at_head : At-loop-i
+  at_head = (goal.at.Else-marks-i-ne0 c).At-loop-i
 
-  abbrev at-start : Start invariant-loop decreases-loop
+  abbrev at-start : Start
   at-start = at_head.before.before.before.before
 
   within : at_head.loop.i ≤ slot_count (size_of at-start.args.w) (length at-start.args.roll.now)

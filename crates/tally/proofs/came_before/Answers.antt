@@ -10,7 +10,7 @@ use Rattle.tally.proofs.came_before.Goals as goal
 use Rattle.tally.proofs.came_before.Goals.{After-all_agree}
 
 -- the comparison of all bytes is that of the receipts
-compared : (c : After-all_agree invariant-loop decreases-loop)
+compared : (c : After-all_agree)
     → c.all_agree.result
     ≡ same_receipt (receipt_at c.args.list.now c.args.i)
     (receipt_at c.args.list.now (c.loop-j.j - 1))
