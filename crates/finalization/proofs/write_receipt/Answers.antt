@@ -28,7 +28,7 @@ digest-size c = length-take-le _ _ (inside c)
 
 -- zeros in the places of a receipt
 cleared : (c : After-fill)
-    → c.fill.new.fd ++ drop receipt_bytes c.args.output.now
+    → c.fill.new.output ++ drop receipt_bytes c.args.output.now
     ≡ replicate receipt_bytes 0 ++ drop receipt_bytes c.args.output.now
 unfolding receipt_bytes
 cleared c =
@@ -37,14 +37,14 @@ cleared c =
 
 -- the output is as long as it was
 same_length : (c : After-fill)
-    → length (c.fill.new.fd ++ drop receipt_bytes c.args.output.now) ≡ length c.args.output.now
+    → length (c.fill.new.output ++ drop receipt_bytes c.args.output.now) ≡ length c.args.output.now
 same_length c =
     let m = c.args.output.now in
     ap length (cleared c)
     ∙ length-append (replicate receipt_bytes 0) (drop receipt_bytes m)
     ∙ omega (arith, length-replicate {A = ℕ} receipt_bytes 0, length-drop receipt_bytes m, c.requires.3)
 
-stored : (c : After-put) → length c.put.new.line ≡ length c.args.output.now
+stored : (c : After-put) → length c.put.new.output ≡ length c.args.output.now
 unfolding receipt_bytes
 stored c = ap length c.put.ensures.1 ∙ simp (length-sets, length-set) (same_length (goal.at.After-put c).After-fill)
 
