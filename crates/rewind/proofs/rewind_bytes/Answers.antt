@@ -52,7 +52,7 @@ backward-run-requires c = let z = (goal.at.backward-run-requires c).Start in ((i
 pub cut-requires : goal.cut-requires
 unfolding rewind_in_turn reached
 cut-requires c = let z = (goal.at.cut-requires c).Start in
-    (z.requires.0, c.backward-run.ensures.1, (on z).ranges, (few z).0, (few z).1, (few z).0)
+    (z.requires.0, c.backward-run.ensures.1, (on z).fits, (few z).0, (few z).1, (few z).0)
 
 pub returns : goal.returns
 unfolding rewind_in_turn reached

@@ -9,10 +9,10 @@ use Rattle.roll.proofs.is_roll_of.Goals as goal
 
 pub returns-then-not-y : goal.returns-then-not-y
 unfolding is_roll_of
-returns-then-not-y c s is = rw (sym (traversal-form _ s is) ∙ c.if-not-y.true)
+returns-then-not-y c s is = rw (sym (traversal-form _ s is) ∙ not-true _ c.if-not-y.true)
 
 pub returns : goal.returns
 unfolding is_roll_of
 returns c s is = let r = c.args.r in
-    let form : is_roll (size_of r.w) s ≡ true = sym (traversal-form _ s is) ∙ c.if-not-y.false in
+    let form : is_roll (size_of r.w) s ≡ true = sym (traversal-form _ s is) ∙ not-false _ c.if-not-y.false in
     rw (form, traversal-count _ s is form, c.checkpoints.ensures)

@@ -19,13 +19,13 @@ module _ (c : Else-marks-i-ne0) where
   at_head = (goal.at.Else-marks-i-ne0 c).At-loop-i
 
   abbrev at-start : Start
-  at-start = at_head.before.before.before.before
+  at-start = (goal.at.Else-marks-i-ne0 c).Start
 
-  within : at_head.loop.i ≤ slot_count (size_of at-start.args.w) (length at-start.args.roll.now)
+  within : at_head.loop-i.i ≤ slot_count (size_of at-start.args.w) (length at-start.args.roll.now)
   within = omega (arith, at-start.requires.1)
 
-  few : at_head.loop.count < slot_count (size_of at-start.args.w) (length at-start.args.roll.now)
-  few = walked-few _ _ at-start.requires.0 at_head.loop.inv c.loop-i-test.true within c.if-marks-i-ne0.false
+  few : at_head.loop-i.count < slot_count (size_of at-start.args.w) (length at-start.args.roll.now)
+  few = walked-few _ _ at-start.requires.0 at_head.loop-i.invariant c.loop-i-test.true within c.if-marks-i-ne0.false
 
 pub no_marks-marks-requires : goal.no_marks-marks-requires
 no_marks-marks-requires c = tt
@@ -67,7 +67,7 @@ loop-i-smaller c = omega (arith, few (goal.at.loop-i-smaller c).Else-marks-i-ne0
 
 pub loop-i-preserved : goal.loop-i-preserved
 loop-i-preserved c = let e = (goal.at.loop-i-preserved c).Else-marks-i-ne0 in
-    walked_more _ _ (at-start e).requires.0 (at_head e).loop.invariant e.loop-i-test.true (within e) e.if-marks-i-ne0.false _ c.next_index-i-in-loop-i.ensures
+    walked_more _ _ (at-start e).requires.0 (at_head e).loop-i.invariant e.loop-i-test.true (within e) e.if-marks-i-ne0.false _ c.next_index-i-in-loop-i.ensures
 
 pub returns : goal.returns
 returns c = walked_all _ _ c.requires.0 c.loop-i.invariant c.loop-i-test.false _ c.requires.1

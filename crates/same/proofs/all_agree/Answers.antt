@@ -17,3 +17,15 @@ loop-i-preserved c = (tested-more _ _ c.loop-i.agree c.loop-i.i c.loop-i.invaria
 pub returns : goal.returns
 unfolding receipt_bytes
 returns c = tested-all _ _ c.loop-i.agree c.loop-i.i c.loop-i.invariant.0 (omega arith) (omega arith) ∙ sym (same-is-equal c.requires.0 c.requires.1)
+
+pub bounds-a-i : goal.bounds-a-i
+unfolding receipt_bytes
+bounds-a-i c = omega arith
+
+pub bounds-b-i : goal.bounds-b-i
+unfolding receipt_bytes
+bounds-b-i c = omega arith
+
+pub loop-i-smaller : goal.loop-i-smaller
+unfolding receipt_bytes
+loop-i-smaller c = omega arith

@@ -12,3 +12,7 @@ returns-then-n-eq0 c = rw (eq-eqb _ 0 c.if-n-eq0.true)
 pub returns : goal.returns
 unfolding receipt_bytes unused_zero
 returns c = rw (ne_eqb _ 0 c.if-n-eq0.false, c.low_bits.ensures)
+
+pub bounds-r-last : goal.bounds-r-last
+unfolding receipt_bytes unused_zero
+bounds-r-last c = omega arith

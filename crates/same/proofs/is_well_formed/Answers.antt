@@ -95,3 +95,11 @@ returns c = let e = (goal.at.returns c).Else-not-is_digest_length in
     let f : zero_after r e.digest_length_of-n.result ≡ true = sym c.is_zero_after.ensures ∙ c.if-not-is_zero_after.false in
     sym (sym (by_length-is r e.digest_length_of-n.ensures)
     ∙ rw (word-passed (goal.at.returns c).Else-not-is_word_size, eq-eqb (at r 1) 0 e.if-r-ne0.false, digest-passed e, unused-passed (goal.at.returns c).Else-not-is_unused_zero, f, c.bit_length_of.ensures))
+
+pub bounds-r-0 : goal.bounds-r-0
+unfolding receipt_bytes well_formed word_size_of most_bits limit
+bounds-r-0 c = omega arith
+
+pub bounds-r-1 : goal.bounds-r-1
+unfolding receipt_bytes well_formed word_size_of most_bits limit
+bounds-r-1 c = omega arith
