@@ -17,7 +17,7 @@ use Rattle.close.proofs.close.Goals.{Else-a-ne0, Start}
 
 -- the entry of the call
 abbrev start : Else-a-ne0 → Start
-start c = c.before.before.before
+start c = (goal.at.Else-a-ne0 c).Start
 
 -- the call is accepted
 passed : (c : Else-a-ne0)

@@ -20,7 +20,7 @@ use Rattle.tag.proofs.start.Goals.{After-xor_each-block, Else-a-ne0, Start}
 
 -- the entry of the call
 abbrev start : Else-a-ne0 → Start
-start c = c.before.before.before
+start c = (goal.at.Else-a-ne0 c).Start
 
 -- the call is accepted
 passed : (c : Else-a-ne0) → Keyed (start c).args.w (start c).args.n (length (start c).args.key.now) 0
