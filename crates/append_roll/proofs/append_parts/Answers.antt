@@ -18,7 +18,7 @@ use Rattle.checkpoints.proofs.Spacing.{step}
 use Rattle.checkpoints.proofs.AppendAnswers.{Accepted, accepted, goal-of, accepted-call}
 use Rattle.append_roll.proofs.Parts.{Entry, inserted-at, due-after, Parted, so-far-sound, none-reached, first-room, first-parted, first_rest, chain-ok, count-few, next-room, parted-more, parted-roll, parted-end, order-there}
 use Rattle.append_roll.proofs.append_parts.Goals as goal
-use Rattle.append_roll.proofs.append_parts.Goals.{After-loop-at, After-to_checkpoint-first, At-loop-at, Else-piece-first, In-loop-at, Start}
+use Rattle.append_roll.proofs.append_parts.Goals.{After-loop-at, At-loop-at, Else-piece-first, In-loop-at, Start}
 
 -- at the entry
 module _ (z : Start) where
@@ -71,7 +71,7 @@ first_part-p-requires c = let e = (goal.at.first_part-p-requires c).Else-piece-f
 -- at the head of the loop
 module _ (l : At-loop-at) where
   abbrev entered : Else-piece-first
-  entered = (goal.at.At-loop-at l).After-to_checkpoint-first
+  entered = (goal.at.At-loop-at l).Else-piece-first
 
   abbrev from_start : Start
   from_start = begun entered
@@ -82,11 +82,11 @@ module _ (l : At-loop-at) where
   step_is : Q ≡ step (R from_start).w
   step_is = l.between_checkpoints-step.ensures
 
-  inserted-first : l.first_part-p.last.1.1.1.0 ≡ inserted-at (R from_start) (P from_start) (first entered) (S from_start)
+  inserted-first : l.first_part-p.new.roll ≡ inserted-at (R from_start) (P from_start) (first entered) (S from_start)
   inserted-first = l.first_part-p.ensures.2 _
 
-  rest-first : (length l.first_part-p.last.1.1.1.0 ≡ length (S from_start))
-      × (due-after (R from_start) (P from_start) (first entered) l.first_part-p.last.1.1.1.0 ≡ goal-of (R from_start) (P from_start) (S from_start))
+  rest-first : (length l.first_part-p.new.roll ≡ length (S from_start))
+      × (due-after (R from_start) (P from_start) (first entered) l.first_part-p.new.roll ≡ goal-of (R from_start) (P from_start) (S from_start))
   rest-first =
       first_rest (R from_start) (P from_start) (entry from_start) (first entered) (next entered) (le entered) inserted-first
 

@@ -46,3 +46,19 @@ loop-j-preserved c = (omega arith, not_found _ _ _ _ c.loop-j.invariant.1 (omega
 pub returns : goal.returns
 unfolding most_receipts
 returns c = none_left _ _ _ _ c.loop-j.invariant.1 (omega arith)
+
+pub bounds-sums-i : goal.bounds-sums-i
+unfolding most_receipts
+bounds-sums-i c = omega arith
+
+pub bounds-sums-j : goal.bounds-sums-j
+unfolding most_receipts
+bounds-sums-j c = omega arith
+
+pub offset_bounds-sums-i : goal.offset_bounds-sums-i
+unfolding most_receipts
+offset_bounds-sums-i c = omega arith
+
+pub offset_bounds-sums-j : goal.offset_bounds-sums-j
+unfolding most_receipts
+offset_bounds-sums-j c = omega arith

@@ -27,3 +27,7 @@ loop-i-preserved c = (
 pub returns : goal.returns
 unfolding most_receipts receipt_count receipt_bytes
 returns c j h = c.loop-i.invariant.0.done j (omega arith)
+
+pub bounds-sums-i : goal.bounds-sums-i
+unfolding most_receipts receipt_count receipt_bytes
+bounds-sums-i c = omega arith
