@@ -66,7 +66,7 @@ returns c = let p = (goal.at.returns c).Else-a-ne0 in
     (sym p.answer-a.ensures ∙ p.if-a-ne0.false)
     (receipt-is z.args.w z.args.n z.args.message.now z.args.last z.args.e
     (λ i. (p.shared_slice_known-1.given i).fits)
-    z.fits.last.fits
+    z.ranges.last.fits
     (passed p).end.extra
     (passed p).end.low
     c.pad_byte-pad.ensures
