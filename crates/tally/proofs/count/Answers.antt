@@ -1,5 +1,4 @@
 use mathlib.Core.Path.{refl, sym, ap, ◌∙◌}
-use mathlib.Core.Logic.{⊎_elim}
 use Prim.Native.Nat.{◌-◌, ◌≤◌, zero-le}
 use native.Mathlib.Omega.{arith}
 use lib.ListN.{length}
@@ -9,6 +8,7 @@ use Rattle.receipts.specs.Tally.{most_receipts, receipt_count, counted}
 use Rattle.receipts.proofs.Places.{receipt-length}
 use Rattle.receipts.proofs.Counting.{Counted, counted_none, together, one_more, all_done}
 use Rattle.tally.proofs.count.Goals as goal
+use Rattle.tally.proofs.count.Goals.{then-is_blank, else-is_blank+then-came_before, else-is_blank+else-came_before}
 
 pub checksums-sums-requires : goal.checksums-sums-requires
 unfolding most_receipts receipt_count receipt_bytes counted
@@ -40,17 +40,21 @@ overflow_add-firsts c = omega (arith, together c.loop-i.invariant.1)
 
 pub loop-i-preserved : goal.loop-i-preserved
 unfolding most_receipts receipt_count receipt_bytes counted
-loop-i-preserved c = let h = c.loop-i.invariant.1 in
+loop-i-preserved c =
+    let h = c.loop-i.invariant.1 in
     let blank = sym (ap is_blank c.receipt_at.ensures) ∙ sym c.is_blank.ensures in (
       omega arith,
-      ⊎_elim
-          (λ w. one_more h (blank ∙ w.0.taken) refl w.1 w.2 w.3)
-          (⊎_elim
-          (λ w. one_more h (blank ∙ w.0.left) (sym w.2.ensures ∙ w.3.taken) w.4 w.5 w.6)
-          (λ w. one_more h (blank ∙ w.0.left) (sym w.2.ensures ∙ w.3.left) w.4 w.5 w.6))
-          c.if-is_blank.branch,
+      elim c.if-is_blank.branch [
+        | then-is_blank w ↦ one_more h (blank ∙ w.if-is_blank.true) refl w.firsts-is w.reprints-is w.blanks-is
+        | else-is_blank+then-came_before w ↦ one_more h (blank ∙ w.if-is_blank.false) (sym w.came_before.ensures ∙ w.if-came_before.true) w.firsts-is w.reprints-is w.blanks-is
+        | else-is_blank+else-came_before w ↦ one_more h (blank ∙ w.if-is_blank.false) (sym w.came_before.ensures ∙ w.if-came_before.false) w.firsts-is w.reprints-is w.blanks-is
+      ],
     )
 
 pub returns : goal.returns
 unfolding most_receipts receipt_count receipt_bytes counted
 returns c = all_done c.loop-i.invariant.1 (omega arith)
+
+pub receipt_at-requires : goal.receipt_at-requires
+unfolding most_receipts receipt_count receipt_bytes counted
+receipt_at-requires c = omega arith
