@@ -1,3 +1,4 @@
+-- `append::accepted` meets its contract, by how the piece goes. Assumes nothing.
 use mathlib.Core.Path.{sym, ◌∙◌}
 use native.Mathlib.Nat.{mod-le}
 use native.Mathlib.Omega.{arith}

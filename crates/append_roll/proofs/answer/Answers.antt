@@ -1,3 +1,4 @@
+-- `append_roll::answer` visits its contract, test by test. Assumes nothing.
 use mathlib.Core.Path.{◌≡◌, sym, ap, ap₂, ◌∙◌}
 use mathlib.Core.Bool.{Bool}
 use mathlib.Core.List.{List}

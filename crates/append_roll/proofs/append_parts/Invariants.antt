@@ -1,3 +1,4 @@
+-- `append_roll::append_parts` visits its contract: the parts of the piece between its checkpoints. Assumes nothing.
 use mathlib.Core.Path.{◌≡◌, refl, sym, ap, ◌∙◌, subst}
 use mathlib.Core.Bool.{true}
 use mathlib.Core.List.{List, []}

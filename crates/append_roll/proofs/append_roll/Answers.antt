@@ -1,3 +1,4 @@
+-- `append_roll::append_roll` visits its contract, by the answer. Assumes nothing.
 use mathlib.Core.Path.{sym, ◌∙◌}
 use borrow.Author.Rules.{rules}
 use Rattle.checkpoints.proofs.Members.{free-choice}

@@ -1,3 +1,4 @@
+-- `append_roll::between_checkpoints` visits its contract. Assumes nothing.
 use native.Mathlib.Omega.{arith}
 use borrow.Author.Rules.{rules}
 use Rattle.limits.proofs.Limits.{block-most}

@@ -1,3 +1,4 @@
+-- `append_roll::next_part` visits its contract. Assumes nothing.
 use mathlib.Core.Path.{sym, subst}
 use native.Mathlib.Nat.{div-le_self}
 use native.Mathlib.Omega.{arith}

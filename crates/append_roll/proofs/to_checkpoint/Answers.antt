@@ -1,3 +1,4 @@
+-- `append_roll::to_checkpoint` visits its contract. Assumes nothing.
 use Prim.Native.Nat.{◌<◌}
 use native.Mathlib.Nat.{mod-lt}
 use native.Mathlib.Omega.{arith}

@@ -1,3 +1,4 @@
+-- `block_call::backward` meets its contract: a run of one block. Assumes nothing.
 use mathlib.Core.Path.{◌≡◌, refl, sym, ◌∙◌}
 use borrow.Author.Rules.{rules}
 use lib.ListN.{length}

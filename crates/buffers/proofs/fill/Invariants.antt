@@ -1,3 +1,4 @@
+-- `buffers::fill` meets its contract: before turn i the first i places are written. Assumes nothing.
 use mathlib.Core.Path.{◌≡◌, refl, ap, ◌∙◌}
 use mathlib.Core.List.{List, ◌++◌, append-nil}
 use Prim.Native.Nat.{ℕ, ◌-◌, ◌≤◌, zero-le}

@@ -1,3 +1,4 @@
+-- `buffers::put` meets its contract: before turn i the first i bytes of the part are written. Assumes nothing.
 use mathlib.Core.Path.{refl}
 use Prim.Native.Nat.{◌+◌, ◌-◌}
 use native.Mathlib.Omega.{arith}

@@ -1,3 +1,4 @@
+-- `buffers::zero_from` meets its contract: before turn i the flag says whether the bytes before place i are 0. Assumes nothing.
 use mathlib.Core.Path.{refl}
 use Prim.Native.Nat.{◌-◌}
 use native.Mathlib.Omega.{arith}

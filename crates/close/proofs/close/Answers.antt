@@ -1,3 +1,4 @@
+-- `close::close` meets its contract, by the answer. Assumes nothing.
 use mathlib.Core.Path.{sym, ap, ◌∙◌}
 use mathlib.Core.Bool.{Bool}
 use mathlib.Core.List.{List}

@@ -1,3 +1,4 @@
+-- `constants512::step_constants` meets its contract: each constant is that of (14), for every step and lane. Assumes nothing.
 use mathlib.Core.Path.{◌≡◌, refl}
 use Prim.Native.Nat.{◌-◌, ◌*◌}
 use native.Mathlib.Omega.{arith}

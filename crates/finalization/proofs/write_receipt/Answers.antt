@@ -1,3 +1,4 @@
+-- `finalization::write_receipt` meets its contract: zeros, and then the parts of the receipt in their places. Assumes nothing.
 use mathlib.Core.Path.{◌≡◌, sym, ap, ◌∙◌}
 use mathlib.Core.List.{List, ◌++◌}
 use Prim.Native.Nat.{ℕ, ◌+◌, ◌/◌, ◌≤◌}

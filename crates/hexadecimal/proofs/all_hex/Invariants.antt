@@ -1,3 +1,4 @@
+-- `hexadecimal::all_hex` meets its contract: before turn i all bytes passed are hexadecimal digits. Assumes nothing.
 use mathlib.Core.Path.{◌≡◌, refl, sym, ◌∙◌}
 use Prim.Native.Nat.{◌-◌, ◌≤◌, zero-le}
 use native.Mathlib.Omega.{arith}

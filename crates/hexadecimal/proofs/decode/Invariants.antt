@@ -1,3 +1,4 @@
+-- `hexadecimal::decode` meets its contract: before turn i the first i bytes are written. Assumes nothing.
 use Prim.Native.Nat.{◌-◌}
 use native.Mathlib.Omega.{arith}
 use borrow.Author.Rules.{rules}

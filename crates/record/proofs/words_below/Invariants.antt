@@ -1,3 +1,4 @@
+-- `record::words_below` meets its contract: before turn i the words before place i are below 2 ^ 32. Assumes nothing.
 use mathlib.Core.Path.{◌≡◌, refl, sym}
 use mathlib.Core.Bool.{true}
 use Prim.Native.Nat.{ℕ, ◌-◌, ◌^◌, ◌≤◌, zero-le}

@@ -1,3 +1,4 @@
+-- `record::words_zero` meets its contract: before turn i the flag says whether the words before place i are 0. Assumes nothing.
 use mathlib.Core.Path.{◌≡◌, refl}
 use Prim.Native.Nat.{◌-◌, ◌≤◌, zero-le}
 use native.Mathlib.Omega.{arith}

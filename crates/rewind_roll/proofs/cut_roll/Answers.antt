@@ -1,3 +1,4 @@
+-- `rewind_roll::cut_roll` visits its contract, by the answer. Assumes nothing.
 use mathlib.Core.Path.{sym, ap, ◌∙◌}
 use Prim.Native.Nat.{ℕ}
 use borrow.Author.Rules.{rules}

@@ -1,3 +1,4 @@
+-- `rewind_roll::end_roll` visits its contract. Assumes nothing.
 use mathlib.Core.Path.{ap, ◌∙◌}
 use borrow.Author.Rules.{rules}
 use Rattle.orders.specs.declared.Outcome.{Outcome}

@@ -1,3 +1,4 @@
+-- `rewind_roll::rewound` visits its contract. Assumes nothing.
 use mathlib.Core.Path.{◌∙◌}
 use borrow.Author.Rules.{rules}
 use Rattle.checkpoints.proofs.InTurn.{roll-refused, roll-rest}

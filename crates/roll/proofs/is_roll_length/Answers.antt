@@ -1,3 +1,4 @@
+-- `roll::is_roll_length` visits its contract. Assumes nothing.
 use Prim.Native.Nat.{◌*◌, ◌≤◌}
 use native.Mathlib.Omega.{arith}
 use borrow.Author.Rules.{rules}

@@ -1,3 +1,4 @@
+-- `roll::is_roll_of` visits its contract: a walk that is none has no form. Assumes nothing.
 use mathlib.Core.Path.{◌≡◌, sym, ◌∙◌}
 use mathlib.Core.Bool.{true}
 use borrow.Author.Rules.{rules}

@@ -1,3 +1,4 @@
+-- `runs::backward32` meets its contract by either engine. Assumes nothing.
 use Rattle.lsh.specs.Block.{backwards}
 use Rattle.lsh.specs.WordSize.{lsh256}
 use borrow.Author.Rules.{rules}

@@ -1,3 +1,4 @@
+-- `runs::backward64` meets its contract by either engine. Assumes nothing.
 use Rattle.lsh.specs.Block.{backwards}
 use Rattle.lsh.specs.WordSize.{lsh512}
 use borrow.Author.Rules.{rules}

@@ -1,3 +1,4 @@
+-- `runs::backward_bytes` meets its contract, by the word size. Assumes nothing.
 use mathlib.Core.Path.{ap, ◌∙◌}
 use borrow.Author.Rules.{rules}
 use Rattle.lsh.specs.WordSize.{lsh256, lsh512, chain_bytes}

@@ -1,3 +1,4 @@
+-- `runs::forward` meets its contract, by the word size. Assumes nothing.
 use mathlib.Core.Path.{refl, ◌∙◌, subst}
 use Prim.Native.Nat.{◌<◌, ◌^◌}
 use native.Mathlib.Omega.{arith}

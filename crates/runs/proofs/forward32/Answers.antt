@@ -1,3 +1,4 @@
+-- `runs::forward32` meets its contract by either engine. Assumes nothing.
 use Rattle.lsh.specs.Block.{forwards}
 use Rattle.lsh.specs.WordSize.{lsh256}
 use borrow.Author.Rules.{rules}

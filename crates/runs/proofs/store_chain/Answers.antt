@@ -1,3 +1,4 @@
+-- `runs::store_chain` meets its contract, by the word size. Assumes nothing.
 use mathlib.Core.Path.{sym, ap, ap₂, ◌∙◌, subst}
 use Prim.Native.Nat.{◌<◌, ◌^◌}
 use borrow.Author.Rules.{rules}

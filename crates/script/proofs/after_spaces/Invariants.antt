@@ -1,3 +1,4 @@
+-- `script::after_spaces` meets its contract: before turn i some of the k spaces are still to come. Assumes nothing.
 use mathlib.Core.Path.{◌≡◌, refl}
 use mathlib.Core.Logic.{⊎_elim}
 use Prim.Native.Nat.{◌-◌, ◌≤◌, zero-le}

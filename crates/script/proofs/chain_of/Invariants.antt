@@ -1,3 +1,4 @@
+-- `script::chain_of` meets its contract: before turn l the first l words are stored. Assumes nothing.
 use mathlib.Core.Path.{refl}
 use Prim.Native.Nat.{◌-◌, ◌*◌}
 use native.Mathlib.Omega.{arith}

@@ -1,3 +1,4 @@
+-- `script::place` meets its contract: before each turn the words passed are others. Assumes nothing.
 use Prim.Native.Nat.{◌+◌, ◌-◌, ◌≤◌, zero-le}
 use native.Mathlib.Omega.{arith}
 use borrow.Author.Rules.{rules}

@@ -1,3 +1,4 @@
+-- `script::until` meets its contract: before turn i no byte passed is the mark. Assumes nothing.
 use mathlib.Core.Path.{◌≡◌}
 use Prim.Native.Nat.{◌+◌, ◌-◌, ◌≤◌, zero-le}
 use native.Mathlib.Omega.{arith}

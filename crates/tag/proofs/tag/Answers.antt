@@ -1,3 +1,4 @@
+-- `tag::tag` meets its contract, by the answer. Assumes nothing.
 use mathlib.Core.Path.{sym, ◌∙◌}
 use Prim.Native.Nat.{◌≤◌}
 use native.Mathlib.Omega.{arith}

@@ -1,3 +1,4 @@
+-- `tally::came_before` meets its contract: before each turn the receipt is the same as none of those from place j on. Assumes nothing.
 use mathlib.Core.Path.{◌≡◌, refl, sym, ap₂, ◌∙◌, subst}
 use Prim.Native.Nat.{◌-◌, ◌≤◌}
 use native.Mathlib.Omega.{arith}

@@ -1,3 +1,4 @@
+-- `text::put_digits` meets its contract: before turn k the first k digits are written. Assumes nothing.
 use mathlib.Core.Path.{refl}
 use Prim.Native.Nat.{◌+◌, ◌-◌}
 use native.Mathlib.Omega.{arith}

@@ -1,3 +1,4 @@
+-- `whole::whole` meets its contract, by the answer. Assumes nothing.
 use mathlib.Core.Path.{sym, ◌∙◌}
 use native.Mathlib.Omega.{arith}
 use lib.ListN.{length}
