@@ -4,7 +4,6 @@ use native.Mathlib.Nat.{lt_of_lt_of_le}
 use native.Mathlib.Omega.{arith}
 use lib.Dec.{lit<, lit≤}
 use lib.Seq.{sets}
-use borrow.Author.Rules.{rules}
 use Rattle.io.specs.Digits.{last_digits, IsDigitCount}
 use Rattle.decimal.specs.Number.{most_digits}
 use Rattle.decimal.proofs.Digits.{fewest-most}
