@@ -21,3 +21,19 @@ end_in_memory() {
     in_memory=''
     unset TMPDIR
 }
+
+# Puts what rt left in the folder out/ of a crate where the scripts look for it: a program, or the archive for C. One that runs is replaced, and not written over.
+take() { # NAME
+    local made=$1 to=target/bin
+    [ "$1" != lsh_kiosk ] || made=liblsh_kiosk.a to=target/staticlib
+    mkdir -p "$to"
+    cp "crates/$1/out/$made" "$to/.$made" && mv "$to/.$made" "$to/$made"
+}
+
+# Proves a program or the archive, in the crate's folder, as rt wants it, compiles it, and takes it. rt runs a program once that it compiled: here with no arguments
+# and nothing to read, of which nothing comes.
+make() { # NAME
+    local verb=run
+    [ "$1" != lsh_kiosk ] || verb=lib
+    (cd "crates/$1" && rt "$verb" </dev/null) && take "$1"
+}

@@ -1,7 +1,8 @@
 // Why a line of a script is no call, said on standard error for the one who wrote the script.
+#![tactic(auto)]
+
 ghost use Rattle.std.specs.Prelude.{◌≤◌, length};
 
-use libc::STDERR_FILENO;
 use script::{ENGINES, OUTPUT, ROLL};
 
 // The most lines of which it is said.
@@ -41,7 +42,7 @@ const COUNT: u64 = 13;
 const NONE: u64 = 14;
 
 // A fault, and the number of the word that has it, or of the words that the line should have.
-#[derive(Drop)]
+#[derive(Clone, Copy)]
 struct Fault {
     why: u64,
     word: usize,
@@ -56,12 +57,22 @@ fn one_fault(why: u64, word: usize) -> Fault {
 
 // Says why line k is no call, unless that was said of many before, and answers of how many lines it has been asked. The line's first word names a call or
 // not, whose form has a letter for each word behind it.
-pub fn explain(before: u64, k: u64, line: &[u8], named: bool, form: &[u8]) -> u64 {
+pub fn explain(
+    rt: &HostRuntime,
+    before: u64,
+    k: u64,
+    line: &[u8],
+    named: bool,
+    form: &[u8],
+) -> u64 {
     if before < MOST {
-        say(k, of_line(line, named, form));
+        say(rt, k, of_line(line, named, form));
     }
     if before == MOST {
-        tell(b"replay: there are more lines that are no call; why is said of the first 100\n");
+        tell(
+            rt,
+            b"replay: there are more lines that are no call; why is said of the first 100\n",
+        );
     }
     std::num::wrapping_add_u64(before, 1)
 }
@@ -204,37 +215,37 @@ fn of_bytes(word: &[u8]) -> u64 {
 }
 
 // Says why line k is no call.
-fn say(k: u64, f: Fault) {
-    tell(b"replay: line ");
-    io::print_decimal(STDERR_FILENO, k);
-    tell(b": ");
+fn say(rt: &HostRuntime, k: u64, f: Fault) {
+    tell(rt, b"replay: line ");
+    tell_number(rt, k);
+    tell(rt, b": ");
     if f.why == COUNT {
-        say_count(f.word);
+        say_count(rt, f.word);
         return;
     }
     if NO_NUMBER <= f.why {
-        say_word(f.word);
+        say_word(rt, f.word);
     }
-    say_why(f.why);
+    say_why(rt, f.why);
 }
 
-fn say_count(words: usize) {
+fn say_count(rt: &HostRuntime, words: usize) {
     if words == 1 {
-        tell(b"a line of this call is one word\n");
+        tell(rt, b"a line of this call is one word\n");
         return;
     }
-    tell(b"a line of this call has ");
-    io::print_decimal(STDERR_FILENO, words as u64);
-    tell(b" words\n");
+    tell(rt, b"a line of this call has ");
+    tell_number(rt, words as u64);
+    tell(rt, b" words\n");
 }
 
-fn say_word(word: usize) {
-    tell(b"word ");
-    io::print_decimal(STDERR_FILENO, word as u64);
-    tell(b": ");
+fn say_word(rt: &HostRuntime, word: usize) {
+    tell(rt, b"word ");
+    tell_number(rt, word as u64);
+    tell(rt, b": ");
 }
 
-fn say_why(why: u64) {
+fn say_why(rt: &HostRuntime, why: u64) {
     let sentences = b"it ends in a carriage return\n\
           there is a space too many: words have one between two of them, and no other\n\
           its first word is no call\n\
@@ -248,8 +259,8 @@ fn say_why(why: u64) {
           a byte has two digits, and here is one too few\n\
           LAST is one byte\n\
           an engine is 1 or 2\n";
-    tell(line_of(sentences, why));
-    tell(b"\n");
+    tell(rt, line_of(sentences, why));
+    tell(rt, b"\n");
 }
 
 // Line i of a text, counted from 0; an empty one where it has fewer.
@@ -277,6 +288,10 @@ fn next_line(text: &[u8], from: usize) -> usize
     end
 }
 
-fn tell(text: &[u8]) {
-    io::write_all(STDERR_FILENO, text);
+fn tell(rt: &HostRuntime, text: &[u8]) {
+    let _ = Print::write_all(&rt.stderr(), text);
+}
+
+fn tell_number(rt: &HostRuntime, x: u64) {
+    let _ = rt.eprint(x);
 }

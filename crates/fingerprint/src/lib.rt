@@ -1,4 +1,6 @@
 // What `receipt` prints of a file: its receipt, the digest of the receipt alone, or its tag with a key.
+#![tactic(auto)]
+
 pub mod reading;
 
 ghost use Rattle.std.specs.Prelude.{◌+◌, ◌-◌, ◌≤◌};
@@ -11,7 +13,7 @@ use runs::Engine;
 // The bytes of the longest digest, which is also the longest tag.
 const LONGEST: usize = LENGTH - DIGEST;
 
-#[derive(Drop)]
+#[derive(Clone, Copy)]
 pub struct Fingerprint {
     // Whether the file could be read.
     pub good: bool,
@@ -25,7 +27,7 @@ pub struct Fingerprint {
 }
 
 // What is asked for: the word size, the digest length, whether the digest alone, and whether standard input is read for something else than a file.
-#[derive(Drop)]
+#[derive(Clone, Copy)]
 pub struct Kind {
     pub w: u64,
     pub n: u64,
@@ -34,12 +36,12 @@ pub struct Kind {
 }
 
 // What is printed of the file of a name. A key is not empty, and without one a receipt is made.
-pub fn of_file(k: Kind, key: &[u8], name: &[u8]) -> Fingerprint
+pub fn of_file(rt: &HostRuntime, k: Kind, key: &[u8], name: &[u8]) -> Fingerprint
     ensures { (result.from ≤ result.to) × (result.to ≤ receipt_bytes) }
 {
     let engine = runs::faster_engine(k.w);
     let opened = started(engine, k.w, k.n, key);
-    let t = reading::read_file(engine, name, k.input_taken, opened);
+    let t = reading::read_file(rt, engine, name, k.input_taken, opened);
     if !t.good {
         return none();
     }
@@ -77,6 +79,7 @@ fn none() -> Fingerprint
 }
 
 // The receipt of a record, or its digest alone.
+#[tactic(auto, unfolding(receipts::specs::Receipt::receipt_bytes))]
 fn of_record(engine: Engine, r: Record, digest_alone: bool) -> Fingerprint
     ensures { (result.from ≤ result.to) × (result.to ≤ receipt_bytes) }
 {
@@ -93,6 +96,7 @@ fn of_record(engine: Engine, r: Record, digest_alone: bool) -> Fingerprint
     shown(receipt, 0, RECEIPT, same::bit_length_of(&receipt))
 }
 
+#[tactic(auto, unfolding(receipts::specs::Receipt::receipt_bytes))]
 fn tagged(engine: Engine, r: Record, bits: u64, key: &[u8]) -> Fingerprint
     ensures { (result.from ≤ result.to) × (result.to ≤ receipt_bytes) }
 {
@@ -102,6 +106,7 @@ fn tagged(engine: Engine, r: Record, bits: u64, key: &[u8]) -> Fingerprint
 }
 
 // Some of the bytes, from a place on.
+#[tactic(auto, unfolding(receipts::specs::Receipt::receipt_bytes))]
 fn shown(bytes: [u8; RECEIPT], from: usize, size: usize, bits: u64) -> Fingerprint
     requires { from + size ≤ receipt_bytes }
     ensures { (result.from ≤ result.to) × (result.to ≤ receipt_bytes) }

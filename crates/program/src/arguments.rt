@@ -1,7 +1,9 @@
 // The arguments: which are options, which are the values of options, and which name files. Options may stand anywhere before --.
-ghost use Rattle.std.specs.Prelude.{◌≤◌, length};
+ghost use Rattle.std.specs.Prelude.{◌≤◌, length, IfSome};
 
 use crate::messages;
+use std::env::FillError;
+use std::rt::Env;
 
 // What an argument is: the place of an option in the program's table, or one of these.
 pub const UNKNOWN: usize = 1001;
@@ -17,7 +19,7 @@ pub const FILE: usize = 1004;
 // The end of the options.
 pub const END: usize = 1005;
 
-#[derive(Drop)]
+#[derive(Clone, Copy)]
 pub struct Argument {
     pub is: usize,
     // The argument that has the option's value, and the place there where it begins.
@@ -42,22 +44,58 @@ pub fn start() -> Argument {
     bare(VALUE, false)
 }
 
+// How many arguments there are, the program's name counted.
+pub fn count(rt: &HostRuntime) -> usize {
+    let mut room = [0u8; 1];
+    for i in 0..usize::MAX {
+        if is_missing(rt, i, &mut room) {
+            return i;
+        }
+    }
+    usize::MAX
+}
+
+// Whether there is no argument i.
+fn is_missing(rt: &HostRuntime, i: usize, room: &mut [u8]) -> bool {
+    matches!(rt.arg(i, room), Err(FillError::NotPresent))
+}
+
+// Puts argument i at the front of the text and answers how many bytes it has; nothing where it is missing or longer than the text.
+pub fn get(rt: &HostRuntime, i: usize, text: &mut [u8]) -> Option<usize>
+    ensures { IfSome result (λ n. n ≤ length text.new) }
+{
+    match rt.arg(i, text) {
+        Ok(n) => Some(n),
+        Err(_) => None,
+    }
+}
+
+// The same, where one that is missing or too long is as an empty one.
+pub fn get_or_empty(rt: &HostRuntime, i: usize, text: &mut [u8]) -> usize
+    ensures { result ≤ length text.new }
+{
+    match get(rt, i, text) {
+        Some(n) => n,
+        None => 0,
+    }
+}
+
 // Argument i, which comes after the one before. The table has each option and, behind it, v if it takes a value, and a dash if not; there is one space
 // between two words.
-pub fn next(before: Argument, i: usize, table: &[u8]) -> Argument {
+pub fn next(rt: &HostRuntime, before: Argument, i: usize, table: &[u8]) -> Argument {
     if i == before.value {
         return bare(VALUE, before.rest);
     }
     if before.rest {
         return bare(FILE, true);
     }
-    read(i, table)
+    read(rt, i, table)
 }
 
 // Argument i, before which the options have not ended. One that is too long is read as an empty one, which is no option.
-fn read(i: usize, table: &[u8]) -> Argument {
+fn read(rt: &HostRuntime, i: usize, table: &[u8]) -> Argument {
     let mut text = io::buffer();
-    let n = os::arg(i, &mut text);
+    let n = get_or_empty(rt, i, &mut text);
     of_text(i, &text[..n], table)
 }
 
@@ -130,19 +168,20 @@ fn with_value(option: usize, i: usize, attached: bool, end: usize, long: bool) -
 }
 
 // Says what is wrong with argument i.
-pub fn say(program: &[u8], i: usize, fault: &[u8]) {
+pub fn say(rt: &HostRuntime, program: &[u8], i: usize, fault: &[u8]) {
     let mut text = io::buffer();
-    let n = os::arg(i, &mut text);
-    messages::say(program, &text[..n], fault);
+    let n = get_or_empty(rt, i, &mut text);
+    messages::say(rt, program, &text[..n], fault);
 }
 
 // Says why argument i is no option: there is none of its name, or it takes no value.
-pub fn say_no_option(program: &[u8], i: usize, is: usize) {
+pub fn say_no_option(rt: &HostRuntime, program: &[u8], i: usize, is: usize) {
     if is == VALUED {
-        say(program, i, b"this option takes no value");
+        say(rt, program, i, b"this option takes no value");
         return;
     }
     say(
+        rt,
         program,
         i,
         b"there is no such option; --help says what there is",

@@ -1,27 +1,63 @@
 // Files by name; a dash names standard input.
 use crate::messages;
-use libc::STDIN_FILENO;
+use std::fs;
+use std::fs::File;
+use std::io::{Error, Read};
+use std::rt::Stdin;
+
+// What the system calls an argument that is not right: a name that has a zero byte.
+const INVALID: i32 = 22;
+
+// What the system calls bytes that are no text: std takes names that are UTF-8 alone.
+const NO_TEXT: i32 = 84;
+
+// What is read from: standard input, or a file that was opened.
+#[derive(Drop)]
+pub enum Source {
+    Input(Stdin),
+    File(File),
+}
+
+impl Read for Source {
+    fn read(&mut self, chunk: &mut [u8]) -> std::io::Result<usize> {
+        match self {
+            Source::Input(input) => input.read(chunk),
+            Source::File(file) => file.read(chunk),
+        }
+    }
+}
 
 // Whether a name is that of standard input.
 pub fn is_standard_input(name: &[u8]) -> bool {
     buffers::equal_bytes(name, b"-")
 }
 
-// The descriptor of a file, or -1, which is said.
-pub fn open(program: &[u8], name: &[u8]) -> i32 {
+// What a name names, or nothing where it cannot be opened, which is said.
+pub fn open(rt: &HostRuntime, program: &[u8], name: &[u8]) -> Option<Source> {
     if is_standard_input(name) {
-        return STDIN_FILENO;
+        return Some(Source::Input(rt.stdin()));
     }
-    let fd = os::open_read(name);
-    if fd < 0 {
-        messages::fail(program, name);
+    match open_file(rt, name) {
+        Ok(file) => Some(Source::File(file)),
+        Err(e) => {
+            messages::fail(rt, program, name, e);
+            None
+        }
     }
-    fd
 }
 
-// Closes the file. Where standard input was closed before the program began, its number may be a file's.
-pub fn close(name: &[u8], fd: i32) {
-    if !is_standard_input(name) {
-        libc::close(fd);
+// The file of a name, opened to be read.
+fn open_file(rt: &HostRuntime, name: &[u8]) -> std::io::Result<File> {
+    if script::until(name, 0) < name.len() {
+        return Err(Error::from_raw_os_error(INVALID));
     }
+    match std::str::from_utf8(name) {
+        Ok(path) => fs::open(rt, path),
+        Err(_) => Err(Error::from_raw_os_error(NO_TEXT)),
+    }
+}
+
+// Closes the file. Standard input stays as it is.
+pub fn close(source: Source) {
+    drop(source);
 }

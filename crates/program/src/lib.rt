@@ -1,4 +1,6 @@
 // What the programs share: names as they are printed, messages, standard output, files and their lines, and how a program says how it ended.
+#![tactic(auto)]
+
 pub mod arguments;
 pub mod files;
 pub mod lines;

@@ -1,8 +1,11 @@
 // The lines of a file, which is read in chunks.
 ghost use Rattle.std.specs.Prelude.{◌≡◌, ◌≤◌, length};
 
+use crate::files::Source;
+use std::io::{Error, Read};
+
 // How far the file is read.
-#[derive(Drop)]
+#[derive(Clone, Copy)]
 pub struct Place {
     // The part of the chunk that is still to be taken in.
     pub from: usize,
@@ -13,8 +16,8 @@ pub struct Place {
     pub ended: bool,
     // Whether there may be more of the file.
     pub more: bool,
-    // Whether the last read failed.
-    pub failed: bool,
+    // Why the last read failed, if it did.
+    pub failed: Option<Error>,
 }
 
 pub fn start() -> Place
@@ -32,12 +35,12 @@ fn going(from: usize, to: usize, begun: usize, ended: bool) -> Place
         begun: begun,
         ended: ended,
         more: true,
-        failed: false,
+        failed: None,
     }
 }
 
 // Goes on in the file: reads if the chunk is used up, else takes in what it has up to the end of a line, of which at most so many bytes are kept.
-pub fn go_on(p: Place, fd: i32, most: usize, chunk: &mut [u8], line: &mut [u8]) -> Place
+pub fn go_on(p: Place, source: &mut Source, most: usize, chunk: &mut [u8], line: &mut [u8]) -> Place
     requires { (most ≤ length line.old) × (p.from ≤ p.to) × (p.to ≤ length chunk.old) }
     ensures { (result.from ≤ result.to) × (result.to ≤ length chunk.new) }
 {
@@ -45,7 +48,7 @@ pub fn go_on(p: Place, fd: i32, most: usize, chunk: &mut [u8], line: &mut [u8]) 
     let from = p.from;
     let to = p.to;
     if from == to {
-        return read(fd, begun, chunk);
+        return read(source, begun, chunk);
     }
     take_in(begun, from, to, most, chunk, line)
 }
@@ -67,26 +70,25 @@ pub fn ended_bytes(p: Place) -> usize {
 }
 
 // Reads once. The line that the file ends in may lack the newline.
-fn read(fd: i32, begun: usize, chunk: &mut [u8]) -> Place
+fn read(source: &mut Source, begun: usize, chunk: &mut [u8]) -> Place
     ensures { (result.from ≤ result.to) × (result.to ≤ length chunk.new) }
 {
-    let got = libc::read(fd, chunk);
-    if got <= 0 {
-        return last(begun, got < 0);
+    match source.read(chunk) {
+        Ok(0) => last(begun, None),
+        Ok(n) => going(0, n, begun, false),
+        Err(e) => last(begun, Some(e)),
     }
-    let n = io::count(got, chunk);
-    going(0, n, begun, false)
 }
 
 // After the last byte of the file, or where it cannot be read.
-fn last(begun: usize, failed: bool) -> Place
+fn last(begun: usize, failed: Option<Error>) -> Place
     ensures { (result.from ≡ 0) × (result.to ≡ 0) }
 {
     Place {
         from: 0,
         to: 0,
         begun: begun,
-        ended: !failed & (begun != 0),
+        ended: failed.is_none() & (begun != 0),
         more: false,
         failed: failed,
     }

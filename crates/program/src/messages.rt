@@ -4,67 +4,112 @@ ghost use Rattle.program.specs.Sizes.{escaped_bytes};
 
 use crate::names;
 use crate::names::NAME;
-use libc::STDERR_FILENO;
+use std::io::{Error, Write};
 
 // Room for a name each of whose bytes is escaped.
 const ESCAPED: usize = 2 * NAME;
 
+// Room for what the system says of an error.
+const CAUSE: usize = 256;
+
 // Says what is wrong with a name.
-pub fn say(program: &[u8], name: &[u8], fault: &[u8]) {
-    tell(program, b"");
-    end_with(name, fault);
+pub fn say(rt: &HostRuntime, program: &[u8], name: &[u8], fault: &[u8]) {
+    tell(rt, program, b"");
+    end_with(rt, name, fault);
 }
 
 // Says what is wrong without a name.
-pub fn say_alone(program: &[u8], fault: &[u8]) {
-    tell(program, fault);
-    io::write_all(STDERR_FILENO, b"\n");
+pub fn say_alone(rt: &HostRuntime, program: &[u8], fault: &[u8]) {
+    tell(rt, program, fault);
+    write(rt, b"\n");
 }
 
 // Says what is wrong with the value of an option.
-pub fn say_value(program: &[u8], option: &[u8], value: &[u8], fault: &[u8]) {
-    tell(program, option);
-    io::write_all(STDERR_FILENO, b" ");
-    end_with(value, fault);
+pub fn say_value(rt: &HostRuntime, program: &[u8], option: &[u8], value: &[u8], fault: &[u8]) {
+    tell(rt, program, option);
+    write(rt, b" ");
+    end_with(rt, value, fault);
 }
 
 // Says how many there are of something that is wrong with a name.
-pub fn say_count(program: &[u8], name: &[u8], count: u64, fault: &[u8]) {
-    tell(program, b"");
-    write_name(name);
-    io::write_all(STDERR_FILENO, b": ");
-    io::print_decimal(STDERR_FILENO, count);
-    io::write_all(STDERR_FILENO, b" ");
-    io::write_all(STDERR_FILENO, fault);
-    io::write_all(STDERR_FILENO, b"\n");
+pub fn say_count(rt: &HostRuntime, program: &[u8], name: &[u8], count: u64, fault: &[u8]) {
+    tell(rt, program, b"");
+    write_name(rt, name);
+    write(rt, b": ");
+    write_number(rt, count);
+    write(rt, b" ");
+    write(rt, fault);
+    write(rt, b"\n");
 }
 
 // The name and the fault that a message ends with.
-fn end_with(name: &[u8], fault: &[u8]) {
-    write_name(name);
-    tell(b"", fault);
-    io::write_all(STDERR_FILENO, b"\n");
+fn end_with(rt: &HostRuntime, name: &[u8], fault: &[u8]) {
+    write_name(rt, name);
+    tell(rt, b"", fault);
+    write(rt, b"\n");
 }
 
-fn write_name(name: &[u8]) {
+fn write_name(rt: &HostRuntime, name: &[u8]) {
     let mut text = buffer();
     let n = escape(name, &mut text);
-    io::write_all(STDERR_FILENO, &text[0..n]);
+    write(rt, &text[0..n]);
 }
 
 // Says why the system refused a call on a file.
-pub fn fail(program: &[u8], name: &[u8]) {
+pub fn fail(rt: &HostRuntime, program: &[u8], name: &[u8], error: Error) {
     let mut text = buffer();
     let n = escape(name, &mut text);
-    tell(program, b"");
-    os::fail(&text[0..n]);
+    tell(rt, program, b"");
+    write_cause(rt, &text[0..n], error);
+}
+
+// A line that ends with what failed, a colon, and what the system says of the error.
+pub fn write_cause(rt: &HostRuntime, what: &[u8], error: Error) {
+    let mut room = [0u8; CAUSE];
+    let n = put_cause(error, &mut room);
+    write(rt, what);
+    write(rt, b": ");
+    write(rt, system_words(&room[..n]));
+    write(rt, b"\n");
+}
+
+// Puts an error as std shows it at the front of the room, as much of it as the room takes.
+fn put_cause(error: Error, room: &mut [u8]) -> usize
+    ensures { result ≤ length room.new }
+{
+    let all = room.len();
+    let mut rest: &mut [u8] = &mut room[..];
+    let _ = write!(rest, "{error}");
+    let left = rest.len();
+    all.saturating_sub(left)
+}
+
+// The system's own words of an error, without the number that std shows behind them.
+fn system_words(shown: &[u8]) -> &[u8] {
+    match std::str::from_utf8(shown) {
+        Ok(text) => match text.split_once(" (os error ") {
+            Some((words, _)) => words.as_bytes(),
+            None => shown,
+        },
+        Err(_) => shown,
+    }
+}
+
+// Writes to standard error. Where that fails there is nowhere to say so.
+pub fn write(rt: &HostRuntime, text: &[u8]) {
+    let _ = Print::write_all(&rt.stderr(), text);
+}
+
+// The same for a number, in decimal digits.
+pub fn write_number(rt: &HostRuntime, x: u64) {
+    let _ = rt.eprint(x);
 }
 
 // Two parts of a message, with a colon between them.
-fn tell(a: &[u8], b: &[u8]) {
-    io::write_all(STDERR_FILENO, a);
-    io::write_all(STDERR_FILENO, b": ");
-    io::write_all(STDERR_FILENO, b);
+fn tell(rt: &HostRuntime, a: &[u8], b: &[u8]) {
+    write(rt, a);
+    write(rt, b": ");
+    write(rt, b);
 }
 
 // Writes a name, of which as much is taken as a name can have, escaped at the front of its room.

@@ -56,7 +56,7 @@ fn letter(c: u8) -> u8 {
 }
 
 // How far an escaped name is read.
-#[derive(Drop)]
+#[derive(Clone, Copy)]
 pub struct Unescaped {
     // Whether it is one, so far: each backslash has a letter after it.
     pub is: bool,

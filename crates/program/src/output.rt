@@ -1,12 +1,14 @@
 // Standard output.
-use libc::{STDERR_FILENO, STDOUT_FILENO};
+use crate::messages;
 
 // Writes all of the bytes. If that fails, the cause is said, and the program has to end.
-pub fn write(program: &[u8], bytes: &[u8]) -> bool {
-    if io::write_all(STDOUT_FILENO, bytes) {
-        return true;
+pub fn write(rt: &HostRuntime, program: &[u8], bytes: &[u8]) -> bool {
+    match rt.write_all(bytes) {
+        Ok(()) => true,
+        Err(e) => {
+            messages::write(rt, program);
+            messages::write_cause(rt, b": the output cannot be written", e);
+            false
+        }
     }
-    io::write_all(STDERR_FILENO, program);
-    os::fail(b": the output cannot be written");
-    false
 }

@@ -1,6 +1,8 @@
-// How a program ended. A Rattle program has no exit status, so it writes a word to a descriptor of its own, and kiosk makes the status of it. A program
-// that died has written none.
-use libc::STDERR_FILENO;
+// How a program ended. It writes a word to a descriptor of its own, and kiosk makes the status of it, since two of the words ask kiosk for more than a
+// status. A program that died has written none.
+use crate::messages;
+use std::fs::OpenOptions;
+use std::io::Write;
 
 // All is well.
 pub const DONE: u64 = 0;
@@ -16,34 +18,40 @@ pub const HELP: u64 = 3;
 
 pub const VERSION: u64 = 4;
 
-// The descriptor of the word, a number that a caller hardly has in use.
-const WORD: i32 = 99;
+// The descriptor of the word, a number that a caller hardly has in use. The system shows each descriptor of a process as a file.
+const WORD: &str = "/proc/self/fd/99";
 
 // Says how the program of a name ended.
-pub fn end(program: &[u8], status: u64) {
+pub fn end(rt: &HostRuntime, program: &[u8], status: u64) {
     match status {
-        DONE => write(b"0\n"),
-        FAILED => write(b"1\n"),
-        MISUSED => write(b"2\n"),
-        HELP => ask(program, b"help\n"),
-        VERSION => ask(program, b"version\n"),
+        DONE => write(rt, b"0\n"),
+        FAILED => write(rt, b"1\n"),
+        MISUSED => write(rt, b"2\n"),
+        HELP => ask(rt, program, b"help\n"),
+        VERSION => ask(rt, program, b"version\n"),
         _ => {}
     }
 }
 
-fn write(word: &[u8]) {
-    io::write_all(WORD, word);
+// Where the program was started without kiosk, nobody reads the word.
+fn write(rt: &HostRuntime, word: &[u8]) {
+    let _ = write_word(rt, word);
 }
 
 // Asks kiosk. Where the program was started without it, that is said.
-fn ask(program: &[u8], word: &[u8]) {
-    if !io::write_all(WORD, word) {
-        io::write_all(STDERR_FILENO, program);
-        io::write_all(
-            STDERR_FILENO,
+fn ask(rt: &HostRuntime, program: &[u8], word: &[u8]) {
+    if write_word(rt, word).is_err() {
+        messages::write(rt, program);
+        messages::write(
+            rt,
             b": run it by kiosk, which has the help and the version\n",
         );
     }
+}
+
+fn write_word(rt: &HostRuntime, word: &[u8]) -> std::io::Result<()> {
+    let mut file = OpenOptions::new().write(true).open(rt, WORD)?;
+    file.write_all(word)
 }
 
 // The status of what went well, or did not.

@@ -24,8 +24,9 @@ pub const HELP_LONG: usize = 18;
 pub const VERSION: usize = 20;
 
 // Argument i, which comes after the one before.
-pub fn next(before: Argument, i: usize) -> Argument {
+pub fn next(rt: &HostRuntime, before: Argument, i: usize) -> Argument {
     program::arguments::next(
+        rt,
         before,
         i,
         b"-w v -n v --key v -c - --check - --digest - --length - --tally - -h - --help - --version -",

@@ -10,7 +10,9 @@ use crate::options::Asked;
 use crate::{entry, line, messages, options};
 use finalization::RECEIPT;
 use fingerprint::{Fingerprint, reading};
+use program::files::Source;
 use program::{files, lines};
+use std::io::Error;
 
 // What is found of a line: it is right, or not; its file cannot be read; it is no line that was printed; it is empty or a comment; or what was found could
 // not be written.
@@ -27,55 +29,57 @@ const NOTHING: u64 = 4;
 const UNWRITTEN: u64 = 5;
 
 // How many lines of each kind were found.
-#[derive(Drop)]
+#[derive(Clone, Copy)]
 struct Found {
     right: u64,
     wrong: u64,
     unread: u64,
     no_line: u64,
-    // Whether the list could be read so far.
-    good: bool,
+    // Why the list could not be read, if so.
+    failed: Option<Error>,
     // Whether what was found could be written.
     on: bool,
 }
 
 // Whether all lines of a list are right, and whether to go on.
-#[derive(Drop)]
+#[derive(Clone, Copy)]
 pub struct Result {
     pub good: bool,
     pub on: bool,
 }
 
 // Checks the lines of the list of a name.
-pub fn list(mut a: Asked, key: &[u8], name: &[u8]) -> Result {
-    let fd = reading::open_file(name, a.input_taken);
-    if fd < 0 {
-        return Result {
+pub fn list(rt: &HostRuntime, mut a: Asked, key: &[u8], name: &[u8]) -> Result {
+    match reading::open_file(rt, name, a.input_taken) {
+        Some(mut source) => {
+            a.input_taken = a.input_taken | files::is_standard_input(name);
+            let f = each(rt, a, key, &mut source);
+            if let Some(e) = f.failed {
+                messages::fail(rt, name, e);
+            }
+            files::close(source);
+            verdict(rt, f, name)
+        }
+        None => Result {
             good: false,
             on: true,
-        };
+        },
     }
-    a.input_taken = a.input_taken | files::is_standard_input(name);
-    let f = each(a, key, fd);
-    if !f.good {
-        messages::fail(name);
-    }
-    files::close(name, fd);
-    verdict(f, name)
 }
 
-fn each(a: Asked, key: &[u8], fd: i32) -> Found {
+#[tactic(auto, unfolding(crate::specs::Sizes::line_bytes, receipts::specs::Receipt::receipt_bytes))]
+fn each(rt: &HostRuntime, a: Asked, key: &[u8], source: &mut Source) -> Found {
     let mut chunk = io::large_buffer();
     let mut line = line::buffer();
     let mut f = nothing_found();
     let mut p = lines::start();
     let mut turns = u64::MAX;
     while turns > 0 && p.more & f.on {
-        p = lines::go_on(p, fd, LINE, &mut chunk, &mut line);
-        f = counted(f, line_of(a, key, lines::ended_bytes(p), &line));
+        p = lines::go_on(p, source, LINE, &mut chunk, &mut line);
+        f = counted(f, line_of(rt, a, key, lines::ended_bytes(p), &line));
         turns -= 1;
     }
-    f.good = !p.failed;
+    f.failed = p.failed;
     f
 }
 
@@ -85,7 +89,7 @@ fn nothing_found() -> Found {
         wrong: 0,
         unread: 0,
         no_line: 0,
-        good: true,
+        failed: None,
         on: true,
     }
 }
@@ -103,7 +107,8 @@ fn counted(mut f: Found, what: u64) -> Found {
 }
 
 // What is found of a line of n bytes. A list may come from a system whose lines end in a carriage return; elsewhere in a line none was printed.
-fn line_of(a: Asked, key: &[u8], n: usize, buffer: &[u8]) -> u64
+#[tactic(auto, unfolding(crate::specs::Sizes::line_bytes, receipts::specs::Receipt::receipt_bytes))]
+fn line_of(rt: &HostRuntime, a: Asked, key: &[u8], n: usize, buffer: &[u8]) -> u64
     requires { line_bytes ≡ length buffer.now }
 {
     if LINE < n {
@@ -120,11 +125,11 @@ fn line_of(a: Asked, key: &[u8], n: usize, buffer: &[u8]) -> u64
     if end == 0 {
         return NOTHING;
     }
-    checked(a, key, &buffer[0..end])
+    checked(rt, a, key, &buffer[0..end])
 }
 
 // What is found of a line that is neither empty nor a comment.
-fn checked(a: Asked, key: &[u8], line: &[u8]) -> u64
+fn checked(rt: &HostRuntime, a: Asked, key: &[u8], line: &[u8]) -> u64
     requires { length line.now ≤ line_bytes }
 {
     let e = entry::parts(line);
@@ -138,7 +143,7 @@ fn checked(a: Asked, key: &[u8], line: &[u8]) -> u64
     if !(e.is & name.is & is_kind(a, listed, k.count)) {
         return NO_LINE;
     }
-    file(a, key, e, listed, &room[0..size])
+    file(rt, a, key, e, listed, &room[0..size])
 }
 
 // Whether bytes are what is asked for: a receipt, or as many bytes as a digest or a tag has. A receipt that could have been written is the same as itself.
@@ -156,19 +161,26 @@ fn has_receipts(a: Asked) -> bool {
 }
 
 // Checks the file of a name, and prints what is found.
-fn file(a: Asked, key: &[u8], e: Entry, listed: [u8; RECEIPT], name: &[u8]) -> u64
+fn file(rt: &HostRuntime, a: Asked, key: &[u8], e: Entry, listed: [u8; RECEIPT], name: &[u8]) -> u64
     requires { length name.now ≤ name_bytes }
 {
-    let f = of_file(a, key, listed, name);
+    let f = of_file(rt, a, key, listed, name);
     let what = compared(a, e, listed, f);
-    if print(name, what) {
+    if print(rt, name, what) {
         return what;
     }
     UNWRITTEN
 }
 
 // What is printed of the file now: of a receipt with its own w and n.
-fn of_file(a: Asked, key: &[u8], listed: [u8; RECEIPT], name: &[u8]) -> Fingerprint
+#[tactic(auto, unfolding(receipts::specs::Receipt::receipt_bytes))]
+fn of_file(
+    rt: &HostRuntime,
+    a: Asked,
+    key: &[u8],
+    listed: [u8; RECEIPT],
+    name: &[u8],
+) -> Fingerprint
     ensures { (result.from ≤ result.to) × (result.to ≤ receipt_bytes) }
 {
     let mut k = options::kind(a);
@@ -176,7 +188,7 @@ fn of_file(a: Asked, key: &[u8], listed: [u8; RECEIPT], name: &[u8]) -> Fingerpr
         k.w = listed[0] as u64;
         k.n = same::digest_length_of(&listed);
     }
-    fingerprint::of_file(k, key, name)
+    fingerprint::of_file(rt, k, key, name)
 }
 
 // Whether the file is as listed. Receipts are compared by Same; of a digest or a tag every byte is compared, as in the check of a tag.
@@ -197,6 +209,7 @@ fn compared(a: Asked, e: Entry, listed: [u8; RECEIPT], f: Fingerprint) -> u64
 }
 
 // Whether what is listed is the same receipt, or the part of the bytes.
+#[tactic(auto, unfolding(receipts::specs::Receipt::receipt_bytes))]
 fn agree(
     are_receipts: bool,
     listed: [u8; RECEIPT],
@@ -214,53 +227,56 @@ fn agree(
     buffers::equal_bytes(&listed[0..size], &bytes[from..to])
 }
 
-fn print(name: &[u8], what: u64) -> bool
+fn print(rt: &HostRuntime, name: &[u8], what: u64) -> bool
     requires { length name.now ≤ name_bytes }
 {
     match what {
-        RIGHT => line::print_verdict(name, b": OK"),
-        UNREAD => line::print_verdict(name, b": FAILED open or read"),
-        _ => line::print_verdict(name, b": FAILED"),
+        RIGHT => line::print_verdict(rt, name, b": OK"),
+        UNREAD => line::print_verdict(rt, name, b": FAILED open or read"),
+        _ => line::print_verdict(rt, name, b": FAILED"),
     }
 }
 
 // Says what was found in the list of a name, unless the output could not be written, which was said.
-fn verdict(f: Found, name: &[u8]) -> Result {
+fn verdict(rt: &HostRuntime, f: Found, name: &[u8]) -> Result {
     if !f.on {
         return Result {
             good: false,
             on: false,
         };
     }
-    say_count(name, f.wrong, b"file failed", b"files failed");
+    say_count(rt, name, f.wrong, b"file failed", b"files failed");
     say_count(
+        rt,
         name,
         f.unread,
         b"file could not be read",
         b"files could not be read",
     );
     say_count(
+        rt,
         name,
         f.no_line,
         b"line is not as it is printed without --check",
         b"lines are not as they are printed without --check",
     );
     let is_empty = (f.right == 0) & (f.wrong == 0) & (f.unread == 0);
-    if is_empty & f.good {
-        messages::say(name, b"there is no line to check in it");
+    let good = f.failed.is_none();
+    if is_empty & good {
+        messages::say(rt, name, b"there is no line to check in it");
     }
     Result {
-        good: f.good & !is_empty & (f.wrong == 0) & (f.unread == 0) & (f.no_line == 0),
+        good: good & !is_empty & (f.wrong == 0) & (f.unread == 0) & (f.no_line == 0),
         on: true,
     }
 }
 
 // Says how many lines there are of a kind, if there are any.
-fn say_count(name: &[u8], count: u64, one: &[u8], more: &[u8]) {
+fn say_count(rt: &HostRuntime, name: &[u8], count: u64, one: &[u8], more: &[u8]) {
     if count == 1 {
-        messages::count_wrong(name, count, one);
+        messages::count_wrong(rt, name, count, one);
     }
     if 1 < count {
-        messages::count_wrong(name, count, more);
+        messages::count_wrong(rt, name, count, more);
     }
 }

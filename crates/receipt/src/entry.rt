@@ -7,7 +7,7 @@ use program::names;
 use program::names::NAME;
 
 // Where the parts of a line stand.
-#[derive(Drop)]
+#[derive(Clone, Copy)]
 pub struct Entry {
     // Whether it is such a line.
     pub is: bool,
@@ -108,7 +108,7 @@ pub fn read_name(e: Entry, line: &[u8], room: &mut [u8]) -> Name
 }
 
 // A name and how many bytes it has.
-#[derive(Drop)]
+#[derive(Clone, Copy)]
 pub struct Name {
     pub is: bool,
     pub size: usize,

@@ -9,7 +9,7 @@ use finalization::RECEIPT;
 use program::status;
 
 // How far the files are done.
-#[derive(Drop)]
+#[derive(Clone, Copy)]
 struct Progress {
     // Whether all went well.
     good: bool,
@@ -20,7 +20,7 @@ struct Progress {
 }
 
 // What was done with one argument.
-#[derive(Drop)]
+#[derive(Clone, Copy)]
 struct Done {
     good: bool,
     on: bool,
@@ -30,19 +30,19 @@ struct Done {
 }
 
 // Does what is asked for with each file, and answers how that ended. With a key, which is not empty, tags are made.
-pub fn all(a: Asked, key: &[u8]) -> u64 {
+pub fn all(rt: &HostRuntime, a: Asked, key: &[u8]) -> u64 {
     let mut list = list::buffer();
-    let p = each(a, key, &mut list);
+    let p = each(rt, a, key, &mut list);
     if a.tally & p.on {
-        return status::of(list::print_tally(&list, p.count) & p.good);
+        return status::of(list::print_tally(rt, &list, p.count) & p.good);
     }
     status::of(p.good)
 }
 
-fn each(a: Asked, key: &[u8], list: &mut [u8]) -> Progress
+fn each(rt: &HostRuntime, a: Asked, key: &[u8], list: &mut [u8]) -> Progress
     requires { list_bytes ≡ length list.old }
 {
-    let end = os::arg_count();
+    let end = program::arguments::count(rt);
     let mut p = Progress {
         good: true,
         on: true,
@@ -51,10 +51,10 @@ fn each(a: Asked, key: &[u8], list: &mut [u8]) -> Progress
     let mut t = program::arguments::start();
     let mut i: usize = 1;
     while i < end {
-        t = arguments::next(t, i);
+        t = arguments::next(rt, t, i);
         p = after(
             p,
-            argument(a, key, p.on & (t.is == program::arguments::FILE), i),
+            argument(rt, a, key, p.on & (t.is == program::arguments::FILE), i),
             list,
         );
         i += 1;
@@ -76,17 +76,18 @@ fn after(p: Progress, d: Done, list: &mut [u8]) -> Progress
 }
 
 // Does what is asked for with the file that argument i names, if it is to be done.
-fn argument(a: Asked, key: &[u8], wanted: bool, i: usize) -> Done {
+fn argument(rt: &HostRuntime, a: Asked, key: &[u8], wanted: bool, i: usize) -> Done {
     if !wanted {
         return without_receipt(true, true);
     }
     let mut text = io::buffer();
-    let n = os::arg(i, &mut text);
-    if os::errno() != 0 {
-        messages::say_alone(b"a file's name is too long");
-        return without_receipt(false, true);
+    match program::arguments::get(rt, i, &mut text) {
+        Some(n) => named(rt, a, key, &text[..n]),
+        None => {
+            messages::say_alone(rt, b"a file's name is too long");
+            without_receipt(false, true)
+        }
     }
-    named(a, key, &text[..n])
 }
 
 fn without_receipt(good: bool, on: bool) -> Done {
@@ -98,26 +99,26 @@ fn without_receipt(good: bool, on: bool) -> Done {
     }
 }
 
-fn named(a: Asked, key: &[u8], name: &[u8]) -> Done
+fn named(rt: &HostRuntime, a: Asked, key: &[u8], name: &[u8]) -> Done
     requires { length name.now ≤ name_bytes }
 {
     if a.check {
-        let c = check::list(a, key, name);
+        let c = check::list(rt, a, key, name);
         return without_receipt(c.good, c.on);
     }
-    printed(a, key, name)
+    printed(rt, a, key, name)
 }
 
 // Prints the line of a file.
-fn printed(a: Asked, key: &[u8], name: &[u8]) -> Done
+fn printed(rt: &HostRuntime, a: Asked, key: &[u8], name: &[u8]) -> Done
     requires { length name.now ≤ name_bytes }
 {
-    let f = fingerprint::of_file(options::kind(a), key, name);
+    let f = fingerprint::of_file(rt, options::kind(a), key, name);
     if !f.good {
         return without_receipt(false, true);
     }
     let bytes = f.bytes;
-    let written = line::print(bytes, f.from, f.to, a.length, f.bits, name);
+    let written = line::print(rt, bytes, f.from, f.to, a.length, f.bits, name);
     Done {
         good: written,
         on: written,

@@ -14,7 +14,9 @@ use program::{names, output};
 pub const LINE: usize = 1 + (2 * RECEIPT + 1) + (1 + DIGITS) + 2 + 2 * NAME + 1;
 
 // Prints bytes of a receipt or of a tag, the length of a file if it is asked for, and its name.
+#[tactic(auto, unfolding(receipts::specs::Receipt::receipt_bytes))]
 pub fn print(
+    rt: &HostRuntime,
     bytes: [u8; RECEIPT],
     from: usize,
     to: usize,
@@ -27,20 +29,21 @@ pub fn print(
     let mut line = buffer();
     let end = put(&mut line, &bytes[from..to], with_length, bits, name);
     let first = begin(name);
-    output::write(b"receipt", &line[first..end])
+    output::write(rt, b"receipt", &line[first..end])
 }
 
 // Prints a name and what a check found of it.
-pub fn print_verdict(name: &[u8], verdict: &[u8]) -> bool
+pub fn print_verdict(rt: &HostRuntime, name: &[u8], verdict: &[u8]) -> bool
     requires { (length name.now ≤ name_bytes) × (length verdict.now ≤ verdict_bytes) }
 {
     let mut line = buffer();
     let end = put_verdict(&mut line, name, verdict);
     let first = begin(name);
-    output::write(b"receipt", &line[first..end])
+    output::write(rt, b"receipt", &line[first..end])
 }
 
 // Writes a line and answers where it ends. As sha256sum does, a line whose name has an escaped byte begins with a backslash.
+#[tactic(auto, unfolding(crate::specs::Sizes::line_bytes, receipts::specs::Receipt::receipt_bytes))]
 fn put(line: &mut [u8], shown: &[u8], with_length: bool, bits: u64, name: &[u8]) -> usize
     requires { (line_bytes ≡ length line.old) × (length shown.now ≤ receipt_bytes) × (length name.now ≤ name_bytes) }
     ensures { (1 ≤ result) × (result ≤ line_bytes) }
@@ -67,6 +70,7 @@ fn put_length(line: &mut [u8], from: usize, asked: bool, bits: u64) -> usize
 }
 
 // The same for a name and a verdict.
+#[tactic(auto, unfolding(crate::specs::Sizes::line_bytes, receipts::specs::Receipt::receipt_bytes))]
 fn put_verdict(line: &mut [u8], name: &[u8], verdict: &[u8]) -> usize
     requires { (line_bytes ≡ length line.old) × (length name.now ≤ name_bytes) × (length verdict.now ≤ verdict_bytes) }
     ensures { (1 ≤ result) × (result ≤ line_bytes) }
@@ -78,6 +82,7 @@ fn put_verdict(line: &mut [u8], name: &[u8], verdict: &[u8]) -> usize
     b + 1
 }
 
+#[tactic(auto, unfolding(crate::specs::Sizes::line_bytes, receipts::specs::Receipt::receipt_bytes))]
 pub fn buffer() -> [u8; LINE]
     ensures { line_bytes ≡ length result }
 {

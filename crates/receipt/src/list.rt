@@ -13,6 +13,7 @@ const LIST: usize = tally::MOST_RECEIPTS * RECEIPT;
 // Room for the line of the counts: three, each with a word of at most 10 bytes, and the newline.
 const COUNTS: usize = 3 * (10 + DIGITS) + 1;
 
+#[tactic(auto, unfolding(crate::specs::Sizes::list_bytes, receipts::specs::Tally::most_receipts, receipts::specs::Receipt::receipt_bytes))]
 pub fn buffer() -> [u8; LIST]
     ensures { list_bytes ≡ length result }
 {
@@ -20,6 +21,7 @@ pub fn buffer() -> [u8; LIST]
 }
 
 // Puts a receipt into its place of the list, if there is one, and answers how many receipts there are then.
+#[tactic(auto, unfolding(crate::specs::Sizes::list_bytes, receipts::specs::Tally::most_receipts, receipts::specs::Receipt::receipt_bytes))]
 pub fn keep(list: &mut [u8], count: usize, made: bool, receipt: [u8; RECEIPT]) -> usize
     requires { list_bytes ≡ length list.old }
 {
@@ -35,7 +37,8 @@ pub fn keep(list: &mut [u8], count: usize, made: bool, receipt: [u8; RECEIPT]) -
 }
 
 // Prints the last line: the tally of the receipts.
-pub fn print_tally(list: &[u8], count: usize) -> bool
+#[tactic(auto, unfolding(crate::specs::Sizes::list_bytes, receipts::specs::Tally::most_receipts, receipts::specs::Receipt::receipt_bytes))]
+pub fn print_tally(rt: &HostRuntime, list: &[u8], count: usize) -> bool
     requires { list_bytes ≡ length list.now }
 {
     if tally::MOST_RECEIPTS < count {
@@ -43,16 +46,16 @@ pub fn print_tally(list: &[u8], count: usize) -> bool
     }
     let end = RECEIPT * count;
     let t = tally::tally(&list[0..end]);
-    print_counts(t.firsts, t.reprints, t.blanks)
+    print_counts(rt, t.firsts, t.reprints, t.blanks)
 }
 
-fn print_counts(firsts: u64, reprints: u64, blanks: u64) -> bool {
+fn print_counts(rt: &HostRuntime, firsts: u64, reprints: u64, blanks: u64) -> bool {
     let mut line = [0u8; COUNTS];
     let a = put_count(&mut line, 0, b"firsts ", firsts);
     let b = put_count(&mut line, a, b" reprints ", reprints);
     let c = put_count(&mut line, b, b" blanks ", blanks);
     let end = buffers::put(&mut line, c, b"\n");
-    output::write(b"receipt", &line[0..end])
+    output::write(rt, b"receipt", &line[0..end])
 }
 
 // Words and a count, from a place on.

@@ -1,5 +1,7 @@
 // Prints a receipt of each file that it is given, or its tag with a key, one to a line with the file's name, as sha256sum prints a digest; or checks such
 // lines, as sha256sum --check does.
+#![tactic(auto)]
+
 mod arguments;
 mod check;
 mod entry;
@@ -13,30 +15,31 @@ mod options;
 use options::Asked;
 use program::status;
 
-fn main() {
-    let a = options::read();
-    status::end(b"receipt", run(a));
+fn main(rt: HostRuntime) {
+    let a = options::read(&rt);
+    let s = run(&rt, a);
+    status::end(&rt, b"receipt", s);
 }
 
 // Does what is asked for, and answers how it ended.
-fn run(a: Asked) -> u64 {
+fn run(rt: &HostRuntime, a: Asked) -> u64 {
     if a.status != status::DONE {
         return a.status;
     }
     if a.key == 0 {
-        return files::all(a, b"");
+        return files::all(rt, a, b"");
     }
-    with_key(a)
+    with_key(rt, a)
 }
 
 // Reads the key, and goes on if that went well.
-fn with_key(mut a: Asked) -> u64 {
+fn with_key(rt: &HostRuntime, mut a: Asked) -> u64 {
     let mut room = key::buffer();
-    let k = key::read(a.key, a.key_from, &mut room);
+    let k = key::read(rt, a.key, a.key_from, &mut room);
     let size = k.size;
     if size == 0 {
         return status::FAILED;
     }
     a.input_taken = k.is_input;
-    files::all(a, &room[0..size])
+    files::all(rt, a, &room[0..size])
 }

@@ -4,7 +4,7 @@ use fingerprint::Kind;
 use program::arguments::{Argument, FILE, UNKNOWN, VALUED, from};
 use program::status;
 
-#[derive(Drop)]
+#[derive(Clone, Copy)]
 pub struct Asked {
     pub w: u64,
     // The digest length; while the options are read 0 if none is asked for.
@@ -35,27 +35,27 @@ pub fn kind(a: Asked) -> Kind {
 }
 
 // What is asked for.
-pub fn read() -> Asked {
-    let mut a = read_all();
+pub fn read(rt: &HostRuntime) -> Asked {
+    let mut a = read_all(rt);
     if a.status != status::DONE {
         return a;
     }
     let n = digest_length(a.w, a.n);
     a.n = n;
-    if !is_right(a) {
+    if !is_right(rt, a) {
         a.status = status::MISUSED;
     }
     a
 }
 
-fn read_all() -> Asked {
-    let end = os::arg_count();
+fn read_all(rt: &HostRuntime) -> Asked {
+    let end = program::arguments::count(rt);
     let mut a = nothing();
     let mut t = program::arguments::start();
     let mut i: usize = 1;
     while i < end {
-        t = arguments::next(t, i);
-        a = with(a, t, i);
+        t = arguments::next(rt, t, i);
+        a = with(rt, a, t, i);
         i += 1;
     }
     a
@@ -78,16 +78,16 @@ fn nothing() -> Asked {
 }
 
 // What is asked for with argument i. Of several faults the first is said.
-fn with(a: Asked, t: Argument, i: usize) -> Asked {
+fn with(rt: &HostRuntime, a: Asked, t: Argument, i: usize) -> Asked {
     if a.status != status::DONE {
         return a;
     }
     let is = t.is;
     match is {
-        arguments::WORD_SIZE => word_size(a, t),
-        arguments::BITS => bits(a, t),
-        arguments::KEY => key_file(a, t),
-        UNKNOWN | VALUED => no_option(a, i, is),
+        arguments::WORD_SIZE => word_size(rt, a, t),
+        arguments::BITS => bits(rt, a, t),
+        arguments::KEY => key_file(rt, a, t),
+        UNKNOWN | VALUED => no_option(rt, a, i, is),
         _ => with_flag(a, is),
     }
 }
@@ -106,8 +106,8 @@ fn with_flag(mut a: Asked, is: usize) -> Asked {
     a
 }
 
-fn no_option(a: Asked, i: usize, is: usize) -> Asked {
-    program::arguments::say_no_option(b"receipt", i, is);
+fn no_option(rt: &HostRuntime, a: Asked, i: usize, is: usize) -> Asked {
+    program::arguments::say_no_option(rt, b"receipt", i, is);
     misused(a)
 }
 
@@ -117,13 +117,13 @@ fn misused(mut a: Asked) -> Asked {
 }
 
 // The option -w.
-fn word_size(mut a: Asked, t: Argument) -> Asked {
-    let w = number(b"-w", t);
+fn word_size(rt: &HostRuntime, mut a: Asked, t: Argument) -> Asked {
+    let w = number(rt, b"-w", t);
     if !w.is {
         return misused(a);
     }
     if !runs::is_word_size(w.value) {
-        messages::number_wrong(b"-w", w.value, b"the word size is 32 or 64");
+        messages::number_wrong(rt, b"-w", w.value, b"the word size is 32 or 64");
         return misused(a);
     }
     a.w = w.value;
@@ -131,13 +131,13 @@ fn word_size(mut a: Asked, t: Argument) -> Asked {
 }
 
 // The option -n. Whether its value suits the word size is known after all options.
-fn bits(mut a: Asked, t: Argument) -> Asked {
-    let n = number(b"-n", t);
+fn bits(rt: &HostRuntime, mut a: Asked, t: Argument) -> Asked {
+    let n = number(rt, b"-n", t);
     if !n.is {
         return misused(a);
     }
     if n.value == 0 {
-        messages::number_wrong(b"-n", 0, b"a digest has 1 bit at least");
+        messages::number_wrong(rt, b"-n", 0, b"a digest has 1 bit at least");
         return misused(a);
     }
     a.n = n.value;
@@ -145,30 +145,31 @@ fn bits(mut a: Asked, t: Argument) -> Asked {
 }
 
 // The value of an option as a number; says what is wrong if it is none.
-fn number(option: &[u8], t: Argument) -> script::Number {
+fn number(rt: &HostRuntime, option: &[u8], t: Argument) -> script::Number {
     let mut text = io::buffer();
-    let n = os::arg(t.value, &mut text);
-    let missing = os::errno() != 0;
+    let found = program::arguments::get(rt, t.value, &mut text);
+    let missing = found.is_none();
+    let n = found.unwrap_or(0);
     let value = from(&text[..n], t.from);
     let number = script::read_number(value);
     if !number.is {
-        not_a_number(option, missing, value);
+        not_a_number(rt, option, missing, value);
     }
     number
 }
 
-fn not_a_number(option: &[u8], missing: bool, value: &[u8]) {
+fn not_a_number(rt: &HostRuntime, option: &[u8], missing: bool, value: &[u8]) {
     if missing {
-        messages::say(option, b"a number is missing after it");
+        messages::say(rt, option, b"a number is missing after it");
         return;
     }
-    messages::value_wrong(option, value, b"this is no number, or is too large");
+    messages::value_wrong(rt, option, value, b"this is no number, or is too large");
 }
 
 // The option --key. Its file is read after all options.
-fn key_file(mut a: Asked, t: Argument) -> Asked {
-    if os::arg_count() <= t.value {
-        messages::say(b"--key", b"a file is missing after it");
+fn key_file(rt: &HostRuntime, mut a: Asked, t: Argument) -> Asked {
+    if program::arguments::count(rt) <= t.value {
+        messages::say(rt, b"--key", b"a file is missing after it");
         return misused(a);
     }
     a.key = t.value;
@@ -185,9 +186,10 @@ fn digest_length(w: u64, n: u64) -> u64 {
 }
 
 // Whether a file is named and the options suit each other; says what is wrong if not.
-fn is_right(a: Asked) -> bool {
+fn is_right(rt: &HostRuntime, a: Asked) -> bool {
     if runs::longest_digest(a.w) < a.n {
         messages::number_wrong(
+            rt,
             b"-n",
             a.n,
             b"a digest has 1 bit at least and 8 times the word size at most",
@@ -195,30 +197,38 @@ fn is_right(a: Asked) -> bool {
         return false;
     }
     if a.files == 0 {
-        messages::say_alone(b"no file is named; --help says what there is");
+        messages::say_alone(rt, b"no file is named; --help says what there is");
         return false;
     }
     if a.key != 0 && a.n % 8 != 0 {
-        messages::number_wrong(b"-n", a.n, b"with --key a digest has a multiple of 8 bits");
+        messages::number_wrong(
+            rt,
+            b"-n",
+            a.n,
+            b"with --key a digest has a multiple of 8 bits",
+        );
         return false;
     }
     if a.tally {
-        return suits_tally(a);
+        return suits_tally(rt, a);
     }
     true
 }
 
-fn suits_tally(a: Asked) -> bool {
+fn suits_tally(rt: &HostRuntime, a: Asked) -> bool {
     if a.key != 0 {
-        messages::say_alone(b"--tally counts receipts, and with --key none are made");
+        messages::say_alone(rt, b"--tally counts receipts, and with --key none are made");
         return false;
     }
     if a.check {
-        messages::say_alone(b"--tally counts receipts, and with --check none are printed");
+        messages::say_alone(
+            rt,
+            b"--tally counts receipts, and with --check none are printed",
+        );
         return false;
     }
     if (tally::MOST_RECEIPTS as u64) < a.files {
-        messages::say_alone(b"--tally takes 960 files at most");
+        messages::say_alone(rt, b"--tally takes 960 files at most");
         return false;
     }
     true

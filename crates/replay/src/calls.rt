@@ -36,16 +36,16 @@ fn read(line: &[u8], given: &mut [u8], lent: &mut [u8]) -> Words {
 }
 
 // Says why line k is no call, and answers of how many lines it has been asked.
-pub fn explain(before: u64, k: u64, line: &[u8]) -> u64 {
+pub fn explain(rt: &HostRuntime, before: u64, k: u64, line: &[u8]) -> u64 {
     let mut form = [0u8; WORDS];
     let r = find(line, &mut form);
     let size = r.size;
     let named = r.kind.is;
-    faults::explain(before, k, line, named, &form[0..size])
+    faults::explain(rt, before, k, line, named, &form[0..size])
 }
 
 // The row of a line in the table: its kind, if there is one, and how many letters its form has.
-#[derive(Drop)]
+#[derive(Clone, Copy)]
 pub struct Row {
     pub kind: Number,
     pub size: usize,

@@ -1,4 +1,6 @@
 // Replays an order: reads calls from a file, one to a line, makes each, and prints its answer before it waits for the next line.
+#![tactic(auto)]
+
 mod calls;
 mod checks;
 mod options;
@@ -13,9 +15,11 @@ ghost use Rattle.std.specs.Prelude.{◌≡◌, ◌≤◌, length};
 ghost use Rattle.replay.specs.Sizes.{string_bytes, lent_bytes, room_bytes};
 
 use orders::Record;
+use program::files::Source;
 use program::lines::Place;
-use program::{files, lines, messages, status};
+use program::{arguments, files, lines, messages, status};
 use script::ROLL;
+use std::io::Error;
 
 // The most bytes of a line, without its newline.
 const LINE: usize = 262144;
@@ -34,7 +38,7 @@ const ROOM: usize = 2 * LINE + 1024;
 const FIRST_ENGINE: u64 = 1;
 
 // What calls are made on, kept from line to line.
-#[derive(Drop)]
+#[derive(Clone, Copy)]
 struct State {
     record: Record,
     // How many bytes the roll has.
@@ -44,7 +48,7 @@ struct State {
 }
 
 // What is kept between lines.
-#[derive(Drop)]
+#[derive(Clone, Copy)]
 struct Kept {
     state: State,
     // How many lines have ended.
@@ -55,59 +59,62 @@ struct Kept {
     on: bool,
 }
 
-// How a script ended: whether all of it could be read, and all answers written.
-#[derive(Drop)]
+// How a script ended: why not all of it could be read, if so, and whether all answers could be written.
+#[derive(Clone, Copy)]
 struct Ended {
-    read: bool,
+    unread: Option<Error>,
     written: bool,
 }
 
-fn main() {
-    let a = options::read();
-    status::end(b"replay", run(a));
+fn main(rt: HostRuntime) {
+    let a = options::read(&rt);
+    let s = run(&rt, a);
+    status::end(&rt, b"replay", s);
 }
 
-fn run(a: options::Asked) -> u64 {
+fn run(rt: &HostRuntime, a: options::Asked) -> u64 {
     if a.status != status::DONE {
         return a.status;
     }
     if a.file == 0 {
-        return file(b"-");
+        return file(rt, b"-");
     }
-    named(a.file)
+    named(rt, a.file)
 }
 
 // Replays the file that argument i names.
-fn named(i: usize) -> u64 {
+fn named(rt: &HostRuntime, i: usize) -> u64 {
     let mut text = io::buffer();
-    let n = os::arg(i, &mut text);
-    if os::errno() != 0 {
-        messages::say_alone(b"replay", b"the file's name is too long");
-        return status::FAILED;
+    match arguments::get(rt, i, &mut text) {
+        Some(n) => file(rt, &text[..n]),
+        None => {
+            messages::say_alone(rt, b"replay", b"the file's name is too long");
+            status::FAILED
+        }
     }
-    file(&text[..n])
 }
 
 // Replays the file of a name.
-fn file(name: &[u8]) -> u64 {
-    let fd = files::open(b"replay", name);
-    if fd < 0 {
-        return status::FAILED;
+fn file(rt: &HostRuntime, name: &[u8]) -> u64 {
+    match files::open(rt, b"replay", name) {
+        Some(mut source) => {
+            let e = with_buffers(rt, &mut source);
+            if let Some(error) = e.unread {
+                messages::fail(rt, b"replay", name, error);
+            }
+            files::close(source);
+            status::of(e.unread.is_none() & e.written)
+        }
+        None => status::FAILED,
     }
-    let e = with_buffers(fd);
-    if !e.read {
-        messages::fail(b"replay", name);
-    }
-    files::close(name, fd);
-    status::of(e.read & e.written)
 }
 
-fn with_buffers(fd: i32) -> Ended {
+fn with_buffers(rt: &HostRuntime, source: &mut Source) -> Ended {
     let mut chunk = io::large_buffer();
     let mut line = line_buffer();
     let mut given = bytes_buffer();
     let mut lent = lent_buffer();
-    replay(fd, &mut chunk, &mut line, &mut given, &mut lent)
+    replay(rt, source, &mut chunk, &mut line, &mut given, &mut lent)
 }
 
 fn line_buffer() -> [u8; ROOM]
@@ -129,19 +136,26 @@ fn lent_buffer() -> [u8; LENT_BYTES]
 }
 
 // A proved loop has to end, and nothing says that the input does, so the turns are counted down from a number that no run uses up.
-fn replay(fd: i32, chunk: &mut [u8], line: &mut [u8], given: &mut [u8], lent: &mut [u8]) -> Ended
+fn replay(
+    rt: &HostRuntime,
+    source: &mut Source,
+    chunk: &mut [u8],
+    line: &mut [u8],
+    given: &mut [u8],
+    lent: &mut [u8],
+) -> Ended
     requires { room_bytes ≤ length line.old }
 {
     let mut k = start();
     let mut p = lines::start();
     let mut turns = u64::MAX;
     while turns > 0 && k.on & p.more {
-        p = lines::go_on(p, fd, LINE, chunk, line);
-        k = answer(k, p, line, given, lent);
+        p = lines::go_on(p, source, LINE, chunk, line);
+        k = answer(rt, k, p, line, given, lent);
         turns -= 1;
     }
     Ended {
-        read: !p.failed,
+        unread: p.failed,
         written: k.on,
     }
 }
@@ -166,25 +180,32 @@ fn after(r: Record, roll: u64, engine: u64, lines: u64, faults: u64, on: bool) -
 }
 
 // Answers the line that has ended. Where none has it answers an empty one, which prints nothing, since a branch would cost with all the buffers.
-fn answer(k: Kept, p: Place, line: &mut [u8], given: &mut [u8], lent: &mut [u8]) -> Kept
+fn answer(
+    rt: &HostRuntime,
+    k: Kept,
+    p: Place,
+    line: &mut [u8],
+    given: &mut [u8],
+    lent: &mut [u8],
+) -> Kept
     requires { room_bytes ≤ length line.old }
 {
     let n = lines::ended_bytes(p);
     let c = calls::answer(n, line, k.state, given, lent);
     let next = c.next;
     let number = counted(k.lines, p.ended);
-    let faults = explained(k.faults, number, c.what, n, line);
-    let printed = reply::print(n, line, number, c, lent);
+    let faults = explained(rt, k.faults, number, c.what, n, line);
+    let printed = reply::print(rt, n, line, number, c, lent);
     after(next, c.roll, c.engine, number, faults, printed)
 }
 
 // How many lines were no call with this one, of n bytes; why it is none is said.
-fn explained(faults: u64, k: u64, what: u64, n: usize, line: &[u8]) -> u64 {
+fn explained(rt: &HostRuntime, faults: u64, k: u64, what: u64, n: usize, line: &[u8]) -> u64 {
     if what != reply::NOT_A_CALL {
         return faults;
     }
     let m = words::least(n, line.len());
-    calls::explain(faults, k, &line[0..m])
+    calls::explain(rt, faults, k, &line[0..m])
 }
 
 // How many lines have ended with this one.

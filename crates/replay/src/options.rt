@@ -9,7 +9,7 @@ const HELP_LONG: usize = 2;
 
 const VERSION: usize = 4;
 
-#[derive(Drop)]
+#[derive(Clone, Copy)]
 pub struct Asked {
     // The argument that names the script's file, 0 if it is standard input.
     pub file: usize,
@@ -17,14 +17,14 @@ pub struct Asked {
     pub status: u64,
 }
 
-pub fn read() -> Asked {
-    let end = os::arg_count();
+pub fn read(rt: &HostRuntime) -> Asked {
+    let end = arguments::count(rt);
     let mut a = nothing();
     let mut t = arguments::start();
     let mut i: usize = 1;
     while i < end {
-        t = next(t, i);
-        a = with(a, t, i);
+        t = next(rt, t, i);
+        a = with(rt, a, t, i);
         i += 1;
     }
     a
@@ -38,12 +38,12 @@ fn nothing() -> Asked {
 }
 
 // Argument i, which comes after the one before.
-fn next(before: Argument, i: usize) -> Argument {
-    arguments::next(before, i, b"-h - --help - --version -")
+fn next(rt: &HostRuntime, before: Argument, i: usize) -> Argument {
+    arguments::next(rt, before, i, b"-h - --help - --version -")
 }
 
 // What is asked for with argument i. Of several faults the first is said.
-fn with(mut a: Asked, t: Argument, i: usize) -> Asked {
+fn with(rt: &HostRuntime, mut a: Asked, t: Argument, i: usize) -> Asked {
     if a.status != status::DONE {
         return a;
     }
@@ -51,16 +51,17 @@ fn with(mut a: Asked, t: Argument, i: usize) -> Asked {
     match is {
         HELP | HELP_LONG => a.status = status::HELP,
         VERSION => a.status = status::VERSION,
-        FILE => a = with_file(a, i),
-        UNKNOWN | VALUED => a = no_option(a, i, is),
+        FILE => a = with_file(rt, a, i),
+        UNKNOWN | VALUED => a = no_option(rt, a, i, is),
         _ => {}
     }
     a
 }
 
-fn with_file(mut a: Asked, i: usize) -> Asked {
+fn with_file(rt: &HostRuntime, mut a: Asked, i: usize) -> Asked {
     if a.file != 0 {
         arguments::say(
+            rt,
             b"replay",
             i,
             b"one script is replayed, and this is a second",
@@ -71,8 +72,8 @@ fn with_file(mut a: Asked, i: usize) -> Asked {
     a
 }
 
-fn no_option(a: Asked, i: usize, is: usize) -> Asked {
-    arguments::say_no_option(b"replay", i, is);
+fn no_option(rt: &HostRuntime, a: Asked, i: usize, is: usize) -> Asked {
+    arguments::say_no_option(rt, b"replay", i, is);
     misused(a)
 }
 

@@ -68,7 +68,7 @@ fn set(v: [u64; WORDS], s: State, given: &[u8]) -> Reply {
 }
 
 // The words of a chain and the places for a block's bytes, if they are as long as that.
-#[derive(Drop)]
+#[derive(Clone, Copy)]
 struct Arrays {
     are: bool,
     chain: [u64; 16],

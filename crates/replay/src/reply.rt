@@ -34,7 +34,7 @@ pub const NOT_A_CALL: u64 = 7;
 
 // The answer to a line: what it prints, with the first count of the numbers and a part of the buffer from which calls are lent; and the record that is
 // kept.
-#[derive(Drop)]
+#[derive(Clone, Copy)]
 pub struct Reply {
     pub what: u64,
     count: usize,
@@ -110,7 +110,7 @@ pub fn roll(size: u64, r: Record) -> Reply {
 
 // Prints what line k prints, which has n bytes and stands in the buffer: behind its name, or behind its number if it is no call. Answers whether that
 // went well.
-pub fn print(n: usize, line: &mut [u8], k: u64, c: Reply, lent: &[u8]) -> bool
+pub fn print(rt: &HostRuntime, n: usize, line: &mut [u8], k: u64, c: Reply, lent: &[u8]) -> bool
     requires { room_bytes ≤ length line.old }
 {
     if c.what == NOTHING {
@@ -118,15 +118,15 @@ pub fn print(n: usize, line: &mut [u8], k: u64, c: Reply, lent: &[u8]) -> bool
     }
     let at = put_front(n, line, k, c);
     let end = put_rest(line, at, c, lent);
-    write(line, end)
+    write(rt, line, end)
 }
 
 // Writes the first n bytes of line and a newline, in one call where the system takes them all. Answers whether that went well.
-fn write(line: &mut [u8], n: usize) -> bool
+fn write(rt: &HostRuntime, line: &mut [u8], n: usize) -> bool
     requires { n < length line.old }
 {
     let end = buffers::put(line, n, b"\n");
-    output::write(b"replay", &line[0..end])
+    output::write(rt, b"replay", &line[0..end])
 }
 
 // Puts the front of what is printed into the buffer, and returns the place after it, as the following do.

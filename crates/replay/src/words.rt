@@ -10,7 +10,7 @@ pub const WORDS: usize = 12;
 const LENT: u8 = 0xa5;
 
 // What the words after the name say.
-#[derive(Drop)]
+#[derive(Clone, Copy)]
 pub struct Words {
     // The kind of the line.
     pub kind: u64,
@@ -182,7 +182,7 @@ pub fn fitting(size: u64, room: &[u8]) -> usize
 }
 
 // Where a part of a buffer begins and ends.
-#[derive(Drop)]
+#[derive(Clone, Copy)]
 pub struct Bounds {
     pub from: usize,
     pub to: usize,

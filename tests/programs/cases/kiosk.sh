@@ -134,12 +134,12 @@ passed 1
 
 # What is shown while a program is built, in a copy of the tree with a stand-in for rt that proves nothing.
 tree=$work/tree
-mkdir -p "$tree/crates" "$tree/include" "$work/bin"
+mkdir -p "$tree/crates/receipt" "$tree/crates/lsh_kiosk" "$tree/include" "$work/bin"
 cp kiosk rt.sh "$tree"
 cp include/lsh_kiosk.h "$tree/include"
-printf '# crates\nlow:\nside: low\nreceipt: low side io # a program\nreplay: low\nlsh_kiosk: side\n' >"$tree/crates.txt"
+printf '# crates\nlow:\nside: low\nreceipt: low side io # a program\nreplay: low\nlsh_kiosk staticlib: side\n' >"$tree/crates.txt"
 stand_in() { # COMMANDS
-    printf '#!/bin/sh\n%s\n' "$1" >"$work/bin/rt"
+    printf '#!/bin/sh\nproved() { echo "crate $1: modules loaded=3 checked=2"; echo "logic=proved functions=1"; }\n%s\n' "$1" >"$work/bin/rt"
     chmod +x "$work/bin/rt"
 }
 building=$'kiosk: building receipt: 3 crates are proved first, which takes some minutes the first time\n'
@@ -150,14 +150,14 @@ in_tree() { # ARGUMENTS...
     sed 's/ in [0-9]*:[0-9][0-9]/ in TIME/' "$work/.timed" >&2
     return "$status"
 }
-stand_in 'echo rt: low proved "(unchanged since it was last proved)"; echo a fault; echo rt: side NOT PROVED; exit 1'
-expect_of 1 '' "$building"$'rt: low proved (unchanged since it was last proved)\na fault\nrt: side NOT PROVED\nkiosk: receipt could not be built\n' in_tree receipt
+stand_in 'echo a fault; echo "crate side: modules loaded=3 checked=1"; echo logic=not-proved; exit 1'
+expect_of 1 '' "$building"$'a fault\ncrate side: modules loaded=3 checked=1\nlogic=not-proved\nkiosk: receipt could not be built\n' in_tree receipt
 # Nothing is built for the help and the version.
 expect_of 0 "$(./kiosk receipt --help)"$'\n' '' in_tree receipt --help
 expect_of 0 "replay $version"$'\n' '' in_tree replay --version
-stand_in "[ \"\$*\" = 'check receipt' ] || exit 1
-echo rt: low proved '(unchanged since it was last proved)'; echo rt: side proved '(9 s)'; printf 'rt: rec'; sleep 2; echo eipt proved '(1 s)'; echo rt: receipt ran
-mkdir -p target/bin && printf '#!/bin/bash\necho a receipt of \$1; echo 0 >&99\n' >target/bin/receipt && chmod +x target/bin/receipt"
+stand_in "[ \"\${PWD##*/} \$*\" = 'receipt run' ] || exit 1
+proved side; printf 'crate rec'; sleep 2; echo 'eipt: modules loaded=3 checked=2'; echo 'logic=proved functions=1'; echo 'rt: running out/receipt'
+mkdir -p out && printf '#!/bin/bash\necho a receipt of \$1; echo 0 >&99\n' >out/receipt && chmod +x out/receipt"
 progress=$'kiosk: 2 of 3 crates proved in TIME, the last: side\nkiosk: 3 of 3 crates proved in TIME, the last: receipt\nkiosk: built in TIME\n'
 expect_of 0 $'a receipt of abc\n' "$building$progress" in_tree receipt abc
 expect_of 0 $'a receipt of abc\n' '' in_tree receipt abc
@@ -180,9 +180,9 @@ done
 mkdir -p "$tree/examples"
 printf '#define WORDS "one"\n' >"$tree/examples/common.h"
 printf '#include <stdio.h>\n#include "common.h"\nint main(int argc, char **argv)\n{\n    printf("%%s %%s\\n", WORDS, argv[argc - 1]);\n    return 2;\n}\n' >"$tree/examples/small.c"
-stand_in "[ \"\$*\" = 'staticlib lsh_kiosk' ] || exit 1
-echo rt: low proved '(2 s)'; echo rt: side proved '(9 s)'
-mkdir -p target/staticlib && ar rc target/staticlib/liblsh_kiosk.a"
+stand_in "[ \"\${PWD##*/} \$*\" = 'lsh_kiosk lib' ] || exit 1
+proved low; proved side; proved lsh_kiosk
+mkdir -p out && ar rc out/liblsh_kiosk.a"
 progress=$'kiosk: 1 of 3 crates proved in TIME, the last: low\nkiosk: 2 of 3 crates proved in TIME, the last: side\nkiosk: 3 of 3 crates proved in TIME, the last: lsh_kiosk\nkiosk: built in TIME\n'
 expect_of 2 $'one abc\n' "${building/receipt/lsh_kiosk}$progress" in_tree small abc
 expect_of 2 $'one abc\n' '' in_tree small abc
@@ -191,7 +191,7 @@ printf '#define WORDS "two"\n' >"$tree/examples/common.h"
 expect_of 2 $'two abc\n' '' in_tree small abc
 # What a build puts into memory is gone after it, also if it is stopped.
 for end in 'exit 1' 'sleep 60'; do
-    stand_in "printf '%s\n' \"\${TMPDIR-}\" >given; $end"
+    stand_in "printf '%s\n' \"\${TMPDIR-}\" >../../given; $end"
     rm -f "$tree/given"
     touch "$tree/crates.txt"
     env -u TMPDIR PATH="$work/bin:$PATH" "$tree/kiosk" receipt abc >/dev/null 2>&1 &

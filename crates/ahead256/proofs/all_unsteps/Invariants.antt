@@ -1,18 +1,10 @@
-use mathlib.Core.Path.{◌≡◌, sym, ap, ◌∙◌}
+use mathlib.Core.Path.{◌≡◌}
 use mathlib.Core.List.{List}
 use Prim.Native.Nat.{ℕ, ◌+◌, ◌-◌, ◌≤◌}
-use native.Mathlib.Nat.{sub-zero}
-use native.Mathlib.Omega.{arith}
-use borrow.Author.Rules.{rules}
 use Rattle.lsh.specs.WordSize.{lsh256}
-use Rattle.lsh.specs.Step.{unstep}
-use Rattle.lsh.specs.Expansion.{next_sub_message}
 use Rattle.lsh.specs.Block.{unsteps}
-use Rattle.loops.specs.Rows.{expanded_words, row}
 use Rattle.loops.specs.Halves.{ExpandedFrom, KeptBut}
-use Rattle.loops.proofs.Halves.{kept-none, kept_more, half-kept, length-next, from_more, from-up_to, unstepped-from, unstepped-last}
 use Rattle.mix256.specs.Amounts.{shifts}
-use Rattle.mix256.proofs.Amounts.{shifts-two}
 use Rattle.ahead256.proofs.all_unsteps.Given as goal
 
 abbrev pub invariant-loop-i : goal.invariant-loop-i

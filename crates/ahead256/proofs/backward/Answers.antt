@@ -1,15 +1,11 @@
-use mathlib.Core.Path.{◌≡◌, refl}
-use mathlib.Core.Logic.{◌⊎◌, inl}
-use Prim.Native.Nat.{◌-◌, ◌/◌, ◌≤◌, ◌<◌}
+use mathlib.Core.Path.{refl}
+use mathlib.Core.Logic.{inl}
+use Prim.Native.Nat.{◌-◌}
 use native.Mathlib.Omega.{arith}
 use borrow.Author.Rules.{rules}
-use lib.ListN.{length}
 use Rattle.lsh.specs.WordSize.{lsh256, block_bytes}
-use Rattle.lsh.specs.Bytes.{words_of}
 use Rattle.loops.specs.Rows.{expanded_words}
-use Rattle.loops.specs.Halves.{ExpandedFrom}
-use Rattle.loops.specs.Parts.{part}
-use Rattle.loops.proofs.Runs.{RunBackward, run-backward-none, run-backward-more, run-backward-all}
+use Rattle.loops.proofs.Runs.{run-backward-none, run-backward-more, run-backward-all}
 use Rattle.loops.proofs.Halves.{half-kept, other_half}
 use Rattle.ahead256.proofs.backward.Goals as goal
 

@@ -1,16 +1,12 @@
-use mathlib.Core.Path.{◌≡◌, refl}
-use mathlib.Core.Logic.{◌⊎◌, inl}
+use mathlib.Core.Path.{◌≡◌}
+use mathlib.Core.Logic.{◌⊎◌}
 use Prim.Native.Nat.{◌-◌, ◌/◌, ◌≤◌, ◌<◌}
-use native.Mathlib.Omega.{arith}
-use borrow.Author.Rules.{rules}
 use lib.ListN.{length}
 use Rattle.lsh.specs.WordSize.{lsh256, block_bytes}
 use Rattle.lsh.specs.Bytes.{words_of}
-use Rattle.loops.specs.Rows.{expanded_words}
 use Rattle.loops.specs.Halves.{ExpandedFrom}
 use Rattle.loops.specs.Parts.{part}
-use Rattle.loops.proofs.Runs.{RunBackward, run-backward-none, run-backward-more, run-backward-all}
-use Rattle.loops.proofs.Halves.{half-kept, other_half}
+use Rattle.loops.proofs.Runs.{RunBackward}
 use Rattle.ahead256.proofs.backward.Given as goal
 
 -- the blocks that are run, and the last one that is not, whose sub-messages stand from row k on

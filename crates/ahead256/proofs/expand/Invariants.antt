@@ -1,12 +1,9 @@
-use mathlib.Core.Path.{◌≡◌, refl, ap, ◌∙◌}
+use mathlib.Core.Path.{◌≡◌}
 use mathlib.Core.List.{List}
 use Prim.Native.Nat.{ℕ, ◌+◌, ◌-◌}
-use native.Mathlib.Omega.{arith}
 use lib.ListN.{length}
-use lib.Seq.{length-sets}
 use Rattle.lsh.specs.WordSize.{lsh256}
 use Rattle.loops.specs.Halves.{ExpandedFrom}
-use Rattle.loops.proofs.Halves.{from_more, from-up_to}
 use Rattle.ahead256.proofs.expand.Given as goal
 
 abbrev pub invariant-loop-j : goal.invariant-loop-j

@@ -1,5 +1,3 @@
-use native.Mathlib.Omega.{arith}
-use borrow.Author.Rules.{rules}
 use Rattle.loops.specs.Halves.{loaded}
 use Rattle.ahead256.proofs.load.Goals as goal
 

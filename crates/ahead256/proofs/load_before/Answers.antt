@@ -1,5 +1,4 @@
 use native.Mathlib.Omega.{arith}
-use borrow.Author.Rules.{rules}
 use Prim.Native.Nat.{◌-◌}
 use Rattle.lsh.specs.WordSize.{lsh256, block_bytes}
 use Rattle.lsh.proofs.Bytes.{length-words}

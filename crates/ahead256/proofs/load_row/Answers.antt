@@ -1,12 +1,11 @@
 use mathlib.Core.Path.{refl, sym, ◌∙◌}
 use Prim.Native.Nat.{ℕ, ◌+◌, ◌-◌, ◌*◌}
 use native.Mathlib.Omega.{arith}
-use Rattle.lsh.specs.Tabulate.{at}
 use Rattle.lsh.specs.WordSize.{lsh256, word_bytes, block_bytes}
 use Rattle.lsh.specs.Bytes.{word_at, words_of}
 use Rattle.lsh.proofs.Tabulate.{at-tabulate}
 use Rattle.loops.specs.Rows.{row}
-use Rattle.loops.proofs.Places.{Placed, placed-none, filled_more, filled-all}
+use Rattle.loops.proofs.Places.{placed-none, filled_more, filled-all}
 use Rattle.ahead256.proofs.load_row.Goals as goal
 
 pub loop-l-init : goal.loop-l-init

@@ -1,12 +1,8 @@
-use mathlib.Core.Path.{refl, sym, ◌∙◌}
-use Prim.Native.Nat.{ℕ, ◌+◌, ◌-◌, ◌*◌}
-use native.Mathlib.Omega.{arith}
+use Prim.Native.Nat.{◌+◌, ◌-◌, ◌*◌}
 use Rattle.lsh.specs.Tabulate.{at}
-use Rattle.lsh.specs.WordSize.{lsh256, word_bytes, block_bytes}
-use Rattle.lsh.specs.Bytes.{word_at, words_of}
-use Rattle.lsh.proofs.Tabulate.{at-tabulate}
-use Rattle.loops.specs.Rows.{row}
-use Rattle.loops.proofs.Places.{Placed, placed-none, filled_more, filled-all}
+use Rattle.lsh.specs.WordSize.{lsh256}
+use Rattle.lsh.specs.Bytes.{words_of}
+use Rattle.loops.proofs.Places.{Placed}
 use Rattle.ahead256.proofs.load_row.Given as goal
 
 abbrev pub invariant-loop-l : goal.invariant-loop-l

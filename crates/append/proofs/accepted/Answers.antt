@@ -2,7 +2,6 @@
 use mathlib.Core.Path.{sym, ◌∙◌}
 use native.Mathlib.Nat.{mod-le}
 use native.Mathlib.Omega.{arith}
-use borrow.Author.Rules.{rules}
 use Rattle.lsh.specs.WordSize.{size_of, block_bytes}
 use Rattle.limits.specs.Limits.{limit}
 use Rattle.append.proofs.accepted.Goals as goal

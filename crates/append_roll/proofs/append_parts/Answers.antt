@@ -16,7 +16,7 @@ use Rattle.checkpoints.specs.Roll.{checkpoints}
 use Rattle.checkpoints.proofs.Form.{roll-of}
 use Rattle.checkpoints.proofs.Spacing.{step}
 use Rattle.checkpoints.proofs.AppendAnswers.{Accepted, accepted, goal-of, accepted-call}
-use Rattle.append_roll.proofs.Parts.{Entry, inserted-at, due-after, Parted, so-far-sound, none-reached, first-room, first-parted, first_rest, chain-ok, count-few, next-room, parted-more, parted-roll, parted-end, order-there}
+use Rattle.append_roll.proofs.Parts.{Entry, inserted-at, due-after, so-far-sound, none-reached, first-room, first-parted, first_rest, chain-ok, count-few, next-room, parted-more, parted-roll, parted-end, order-there}
 use Rattle.append_roll.proofs.append_parts.Goals as goal
 use Rattle.append_roll.proofs.append_parts.Goals.{After-loop-at, At-loop-at, Else-piece-first, In-loop-at, Start}
 

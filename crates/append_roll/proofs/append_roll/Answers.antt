@@ -1,6 +1,5 @@
 -- `append_roll::append_roll` visits its contract, by the answer. Assumes nothing.
 use mathlib.Core.Path.{sym, ◌∙◌}
-use borrow.Author.Rules.{rules}
 use Rattle.checkpoints.proofs.Members.{free-choice}
 use Rattle.checkpoints.proofs.AppendAnswers.{refused-call, accepted-call}
 use Rattle.append_roll.proofs.append_roll.Goals as goal

@@ -1,6 +1,5 @@
 -- `append_roll::between_checkpoints` visits its contract. Assumes nothing.
 use native.Mathlib.Omega.{arith}
-use borrow.Author.Rules.{rules}
 use Rattle.limits.proofs.Limits.{block-most}
 use Rattle.append_roll.proofs.between_checkpoints.Goals as goal
 

@@ -4,7 +4,6 @@ use mathlib.Core.List.{List, []}
 use Prim.Native.Nat.{ℕ, ◌+◌}
 use native.Mathlib.Omega.{arith}
 use lib.ListN.{replicate}
-use borrow.Author.Rules.{rules}
 use Rattle.limits.specs.Limits.{longest_block, limit}
 use Rattle.orders.specs.declared.Record.{Record}
 use Rattle.orders.specs.declared.Outcome.{Outcome}

@@ -3,7 +3,6 @@ use mathlib.Core.Path.{sym, subst}
 use native.Mathlib.Nat.{div-le_self}
 use native.Mathlib.Omega.{arith}
 use lib.ListN.{length}
-use borrow.Author.Rules.{rules}
 use Rattle.lsh.specs.WordSize.{size_of, block_bytes}
 use Rattle.lsh.specs.Block.{Chain}
 use Rattle.lsh.proofs.Figures.{amounts}

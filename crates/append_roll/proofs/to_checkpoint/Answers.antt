@@ -2,7 +2,6 @@
 use Prim.Native.Nat.{◌<◌}
 use native.Mathlib.Nat.{mod-lt}
 use native.Mathlib.Omega.{arith}
-use borrow.Author.Rules.{rules}
 use Rattle.lsh.proofs.Figures.{block-some}
 use Rattle.checkpoints.proofs.Spacing.{to-next}
 use Rattle.append_roll.proofs.to_checkpoint.Goals as goal

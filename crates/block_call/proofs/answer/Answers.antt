@@ -1,6 +1,4 @@
 use mathlib.Core.Path.{sym, ◌∙◌}
-use borrow.Author.Rules.{rules}
-use borrow.Author.Tests.{not-true, not-false}
 use Rattle.blocks.specs.BlockCall.{are_lengths, block_answer}
 use Rattle.block_call.proofs.answer.Goals as goal
 

@@ -1,6 +1,5 @@
 -- `block_call::backward` meets its contract: a run of one block. Assumes nothing.
 use mathlib.Core.Path.{◌≡◌, refl, sym, ◌∙◌}
-use borrow.Author.Rules.{rules}
 use lib.ListN.{length}
 use Rattle.lsh.specs.Block.{backward, backwards}
 use Rattle.answers.proofs.Output.{refused-output}

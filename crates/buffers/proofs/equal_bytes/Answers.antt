@@ -1,8 +1,6 @@
-use mathlib.Core.Path.{◌≡◌, refl, sym}
-use Prim.Native.Nat.{◌-◌}
+use mathlib.Core.Path.{refl, sym}
 use native.Mathlib.Omega.{arith}
-use lib.ListN.{length}
-use Rattle.lists.proofs.Equal.{equal-length, Tested, tested-more, tested-all}
+use Rattle.lists.proofs.Equal.{equal-length, tested-more, tested-all}
 use Rattle.buffers.proofs.equal_bytes.Goals as goal
 
 pub returns-then-a-b : goal.returns-then-a-b

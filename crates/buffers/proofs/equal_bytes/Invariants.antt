@@ -1,8 +1,7 @@
-use mathlib.Core.Path.{◌≡◌, refl, sym}
+use mathlib.Core.Path.{◌≡◌}
 use Prim.Native.Nat.{◌-◌}
-use native.Mathlib.Omega.{arith}
 use lib.ListN.{length}
-use Rattle.lists.proofs.Equal.{equal-length, Tested, tested-more, tested-all}
+use Rattle.lists.proofs.Equal.{Tested}
 use Rattle.buffers.proofs.equal_bytes.Given as goal
 
 abbrev pub invariant-loop-i : goal.invariant-loop-i

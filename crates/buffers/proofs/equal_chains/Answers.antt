@@ -1,9 +1,7 @@
-use mathlib.Core.Path.{◌≡◌, refl}
-use Prim.Native.Nat.{◌-◌}
+use mathlib.Core.Path.{refl}
 use native.Mathlib.Omega.{arith}
-use lib.ListN.{length}
 use borrow.Author.Rules.{rules}
-use Rattle.lists.proofs.Equal.{Tested, tested-more, tested-all}
+use Rattle.lists.proofs.Equal.{tested-more, tested-all}
 use Rattle.buffers.proofs.equal_chains.Goals as goal
 
 pub loop-i-init : goal.loop-i-init

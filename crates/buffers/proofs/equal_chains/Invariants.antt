@@ -1,9 +1,7 @@
-use mathlib.Core.Path.{◌≡◌, refl}
+use mathlib.Core.Path.{◌≡◌}
 use Prim.Native.Nat.{◌-◌}
-use native.Mathlib.Omega.{arith}
 use lib.ListN.{length}
-use borrow.Author.Rules.{rules}
-use Rattle.lists.proofs.Equal.{Tested, tested-more, tested-all}
+use Rattle.lists.proofs.Equal.{Tested}
 use Rattle.buffers.proofs.equal_chains.Given as goal
 
 abbrev pub invariant-loop-i : goal.invariant-loop-i

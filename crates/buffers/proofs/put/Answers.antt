@@ -1,8 +1,6 @@
 use mathlib.Core.Path.{refl}
-use Prim.Native.Nat.{◌+◌, ◌-◌}
 use native.Mathlib.Omega.{arith}
-use Rattle.lsh.specs.Tabulate.{at}
-use Rattle.loops.proofs.Places.{Placed, placed-none, placed-more, copied_all}
+use Rattle.loops.proofs.Places.{placed-none, placed-more, copied_all}
 use Rattle.buffers.proofs.put.Goals as goal
 
 pub loop-i-init : goal.loop-i-init

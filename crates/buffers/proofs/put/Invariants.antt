@@ -1,9 +1,7 @@
 -- `buffers::put` meets its contract: before turn i the first i bytes of the part are written. Assumes nothing.
-use mathlib.Core.Path.{refl}
 use Prim.Native.Nat.{◌+◌, ◌-◌}
-use native.Mathlib.Omega.{arith}
 use Rattle.lsh.specs.Tabulate.{at}
-use Rattle.loops.proofs.Places.{Placed, placed-none, placed-more, copied_all}
+use Rattle.loops.proofs.Places.{Placed}
 use Rattle.buffers.proofs.put.Given as goal
 
 abbrev pub invariant-loop-i : goal.invariant-loop-i

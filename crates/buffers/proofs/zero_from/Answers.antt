@@ -1,8 +1,6 @@
 use mathlib.Core.Path.{refl}
-use Prim.Native.Nat.{◌-◌}
 use native.Mathlib.Omega.{arith}
-use lib.ListN.{length}
-use Rattle.lists.proofs.Lists.{Zeros, zeros-more, zeros-all}
+use Rattle.lists.proofs.Lists.{zeros-more, zeros-all}
 use Rattle.buffers.proofs.zero_from.Goals as goal
 
 pub loop-i-init : goal.loop-i-init

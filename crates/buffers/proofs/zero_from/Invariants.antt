@@ -1,9 +1,7 @@
 -- `buffers::zero_from` meets its contract: before turn i the flag says whether the bytes before place i are 0. Assumes nothing.
-use mathlib.Core.Path.{refl}
 use Prim.Native.Nat.{◌-◌}
-use native.Mathlib.Omega.{arith}
 use lib.ListN.{length}
-use Rattle.lists.proofs.Lists.{Zeros, zeros-more, zeros-all}
+use Rattle.lists.proofs.Lists.{Zeros}
 use Rattle.buffers.proofs.zero_from.Given as goal
 
 abbrev pub invariant-loop-i : goal.invariant-loop-i

@@ -1,6 +1,4 @@
 use mathlib.Core.Path.{sym, ◌∙◌}
-use borrow.Author.Rules.{rules}
-use borrow.Author.Tests.{not-true, not-false}
 use Rattle.receipts.specs.Close.{close_answer}
 use Rattle.close.proofs.answer.Goals as goal
 

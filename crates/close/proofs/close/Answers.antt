@@ -5,7 +5,6 @@ use mathlib.Core.List.{List}
 use Prim.Native.Nat.{◌+◌, ◌*◌}
 use native.Mathlib.Omega.{arith}
 use lib.ListN.{length}
-use borrow.Author.Rules.{rules}
 use Rattle.limits.specs.Limits.{limit}
 use Rattle.orders.proofs.Sound.{Sound, sounds}
 use Rattle.limits.proofs.Limits.{digest-most}

@@ -1,5 +1,4 @@
 use native.Mathlib.Omega.{arith}
-use borrow.Author.Rules.{rules}
 use Rattle.lsh.specs.WordSize.{lsh256}
 use Rattle.loops.specs.Constants.{next_constant}
 use Rattle.loops.proofs.Machine.{add_left}

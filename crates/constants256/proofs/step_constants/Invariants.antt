@@ -1,11 +1,7 @@
 -- `constants256::step_constants` meets its contract: each constant is that of (14), for every step and lane. Assumes nothing.
-use mathlib.Core.Path.{◌≡◌, refl}
-use Prim.Native.Nat.{◌-◌, ◌*◌}
-use native.Mathlib.Omega.{arith}
-use borrow.Author.Rules.{rules}
-use lib.ListN.{length}
+use Prim.Native.Nat.{◌-◌}
 use Rattle.lsh.specs.WordSize.{lsh256}
-use Rattle.loops.proofs.Constants.{WorkedOut, worked-none, worked-more, worked-all}
+use Rattle.loops.proofs.Constants.{WorkedOut}
 use Rattle.constants256.proofs.step_constants.Given as goal
 
 abbrev pub invariant-loop-j : goal.invariant-loop-j

@@ -1,6 +1,5 @@
 use mathlib.Core.Path.{◌∙◌}
 use native.Mathlib.Omega.{arith}
-use borrow.Author.Rules.{rules}
 use Rattle.lsh.specs.WordSize.{lsh512}
 use Rattle.lsh.proofs.Word.{add-lt}
 use Rattle.loops.specs.Constants.{next_constant}

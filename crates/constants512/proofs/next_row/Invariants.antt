@@ -1,11 +1,8 @@
-use mathlib.Core.Path.{refl}
 use Prim.Native.Nat.{◌-◌}
-use native.Mathlib.Omega.{arith}
-use borrow.Author.Rules.{rules}
 use Rattle.lsh.specs.Tabulate.{at}
 use Rattle.lsh.specs.WordSize.{lsh512}
-use Rattle.loops.specs.Constants.{next_constant, next_row}
-use Rattle.loops.proofs.Places.{Placed, placed-none, filled_more, filled-all}
+use Rattle.loops.specs.Constants.{next_constant}
+use Rattle.loops.proofs.Places.{Placed}
 use Rattle.constants512.proofs.next_row.Given as goal
 
 abbrev pub invariant-loop-l : goal.invariant-loop-l

@@ -1,9 +1,6 @@
 use mathlib.Core.Path.{refl}
-use Prim.Native.Nat.{◌+◌, ◌-◌, ◌≤◌}
 use native.Mathlib.Omega.{arith}
-use lib.ListN.{length}
-use Rattle.lsh.specs.Tabulate.{at}
-use Rattle.loops.proofs.Places.{Placed, placed-none, placed-more, copied_all}
+use Rattle.loops.proofs.Places.{placed-none, placed-more, copied_all}
 use Rattle.constants512.proofs.put_row.Goals as goal
 
 pub loop-l-init : goal.loop-l-init

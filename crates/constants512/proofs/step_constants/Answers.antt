@@ -1,10 +1,10 @@
 use mathlib.Core.Path.{◌≡◌, refl}
-use Prim.Native.Nat.{◌-◌, ◌*◌}
+use Prim.Native.Nat.{◌*◌}
 use native.Mathlib.Omega.{arith}
 use borrow.Author.Rules.{rules}
 use lib.ListN.{length}
 use Rattle.lsh.specs.WordSize.{lsh512}
-use Rattle.loops.proofs.Constants.{WorkedOut, worked-none, worked-more, worked-all}
+use Rattle.loops.proofs.Constants.{worked-none, worked-more, worked-all}
 use Rattle.constants512.proofs.step_constants.Goals as goal
 
 pub loop-j-init : goal.loop-j-init

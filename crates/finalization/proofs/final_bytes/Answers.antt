@@ -3,7 +3,6 @@ use Prim.Native.Nat.{◌≤◌}
 use native.Mathlib.Omega.{arith}
 use lib.ListN.{length, length-replicate}
 use lib.Seq.{length-take-le}
-use borrow.Author.Rules.{rules}
 use Rattle.lsh.specs.WordSize.{chain_bytes, block_bytes}
 use Rattle.limits.proofs.Limits.{block-most}
 use Rattle.receipts.proofs.FinalBytes.{words-chain, front-is-final}

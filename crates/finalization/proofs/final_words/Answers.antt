@@ -1,9 +1,6 @@
-use Prim.Native.Nat.{◌+◌, ◌-◌}
+use Prim.Native.Nat.{◌-◌}
 use native.Mathlib.Omega.{arith}
-use borrow.Author.Rules.{rules}
-use Rattle.lsh.specs.Tabulate.{at}
-use Rattle.lsh.specs.Word.{xor}
-use Rattle.loops.proofs.Places.{Placed, placed-none, filled_more, front-stored}
+use Rattle.loops.proofs.Places.{placed-none, filled_more, front-stored}
 use Rattle.finalization.proofs.final_words.Goals as goal
 
 pub loop-l-init : goal.loop-l-init

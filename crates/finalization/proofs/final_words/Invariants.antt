@@ -1,9 +1,7 @@
 use Prim.Native.Nat.{◌+◌, ◌-◌}
-use native.Mathlib.Omega.{arith}
-use borrow.Author.Rules.{rules}
 use Rattle.lsh.specs.Tabulate.{at}
 use Rattle.lsh.specs.Word.{xor}
-use Rattle.loops.proofs.Places.{Placed, placed-none, filled_more, front-stored}
+use Rattle.loops.proofs.Places.{Placed}
 use Rattle.finalization.proofs.final_words.Given as goal
 
 abbrev pub invariant-loop-l : goal.invariant-loop-l

@@ -1,5 +1,3 @@
-use native.Mathlib.Omega.{arith}
-use borrow.Author.Rules.{rules}
 use Rattle.finalization.proofs.LastBlock.{stored-block}
 use Rattle.finalization.proofs.last_block.Goals as goal
 

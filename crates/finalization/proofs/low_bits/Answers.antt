@@ -1,4 +1,3 @@
-use borrow.Author.Rules.{rules}
 use Rattle.finalization.proofs.LastByte.{low}
 use Rattle.finalization.proofs.low_bits.Goals as goal
 

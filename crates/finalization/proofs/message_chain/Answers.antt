@@ -2,7 +2,6 @@ use mathlib.Core.Path.{◌∙◌}
 use Prim.Native.Nat.{◌*◌, ◌≤◌}
 use native.Mathlib.Omega.{arith}
 use lib.ListN.{length}
-use borrow.Author.Rules.{rules}
 use Rattle.runs.proofs.Rest.{inside, rest-short}
 use Rattle.finalization.proofs.MessageChain.{run-chain, last-run}
 use Rattle.finalization.proofs.message_chain.Goals as goal

@@ -1,9 +1,7 @@
-use Prim.Native.Nat.{◌-◌, ◌≤◌}
+use Prim.Native.Nat.{◌-◌}
 use native.Mathlib.Omega.{arith}
-use borrow.Author.Rules.{rules}
 use Rattle.lsh.specs.WordSize.{lsh256}
 use Rattle.loops.specs.Rows.{expanded_words}
-use Rattle.loops.specs.Turns.{SteppedAhead}
 use Rattle.loops.proofs.Ahead.{ahead_none, ahead-all}
 use Rattle.groups256.proofs.all_steps.Goals as goal
 

@@ -1,10 +1,6 @@
 use Prim.Native.Nat.{◌-◌, ◌≤◌}
-use native.Mathlib.Omega.{arith}
-use borrow.Author.Rules.{rules}
 use Rattle.lsh.specs.WordSize.{lsh256}
-use Rattle.loops.specs.Rows.{expanded_words}
 use Rattle.loops.specs.Turns.{SteppedAhead}
-use Rattle.loops.proofs.Ahead.{ahead_none, ahead-all}
 use Rattle.groups256.proofs.all_steps.Given as goal
 
 abbrev pub invariant-loop-j : goal.invariant-loop-j

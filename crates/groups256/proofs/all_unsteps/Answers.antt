@@ -1,11 +1,8 @@
 use mathlib.Core.Path.{◌≡◌, sym, ap, ◌∙◌}
-use mathlib.Core.List.{List}
-use Prim.Native.Nat.{ℕ, ◌+◌, ◌-◌, ◌≤◌}
+use Prim.Native.Nat.{ℕ, ◌+◌, ◌-◌}
 use native.Mathlib.Omega.{arith}
-use borrow.Author.Rules.{rules}
 use Rattle.lsh.specs.WordSize.{lsh256}
 use Rattle.loops.specs.Rows.{expanded_words}
-use Rattle.loops.specs.Turns.{RunBack}
 use Rattle.loops.proofs.Turns.{unstepped-is, unstepped-one}
 use Rattle.mix256.specs.Amounts.{shifts}
 use Rattle.mix256.proofs.Amounts.{shifts-two}

@@ -1,11 +1,9 @@
-use mathlib.Core.Path.{◌≡◌, sym, ◌∙◌}
+use mathlib.Core.Path.{◌≡◌}
 use Prim.Native.Nat.{◌-◌, ◌/◌}
-use native.Mathlib.Omega.{arith}
-use borrow.Author.Rules.{rules}
 use lib.ListN.{length}
 use Rattle.lsh.specs.WordSize.{lsh256, block_bytes}
 use Rattle.loops.specs.Rows.{expanded_words}
-use Rattle.loops.proofs.Runs.{length_part, RunBackward, run-backward-none, run-backward-more, run-backward-all}
+use Rattle.loops.proofs.Runs.{RunBackward}
 use Rattle.groups256.proofs.backward.Given as goal
 
 abbrev pub invariant-loop-left : goal.invariant-loop-left

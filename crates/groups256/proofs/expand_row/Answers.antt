@@ -1,4 +1,3 @@
-use borrow.Author.Rules.{rules}
 use Rattle.groups256.proofs.expand_row.Goals as goal
 
 pub returns : goal.returns

@@ -1,14 +1,10 @@
 use mathlib.Core.Path.{◌≡◌, refl, ap, ◌∙◌}
-use mathlib.Core.List.{List}
-use Prim.Native.Nat.{ℕ, ◌+◌, ◌-◌, ◌%◌, ◌≤◌}
+use Prim.Native.Nat.{◌-◌, ◌%◌}
 use native.Mathlib.Omega.{arith}
-use borrow.Author.Rules.{rules}
-use borrow.Author.Tests.{eqb-true, eqb-false}
 use lib.ListN.{length}
 use lib.Seq.{length-sets}
 use Rattle.lsh.specs.WordSize.{lsh256}
 use Rattle.loops.specs.Rows.{expanded_words}
-use Rattle.loops.specs.Turns.{SteppedAhead}
 use Rattle.loops.proofs.Ahead.{ahead_more}
 use Rattle.groups256.proofs.odd_steps.Goals as goal
 

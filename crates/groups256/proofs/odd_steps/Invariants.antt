@@ -1,15 +1,9 @@
-use mathlib.Core.Path.{◌≡◌, refl, ap, ◌∙◌}
+use mathlib.Core.Path.{◌≡◌}
 use mathlib.Core.List.{List}
 use Prim.Native.Nat.{ℕ, ◌+◌, ◌-◌, ◌%◌, ◌≤◌}
-use native.Mathlib.Omega.{arith}
-use borrow.Author.Rules.{rules}
-use borrow.Author.Tests.{eqb-true, eqb-false}
 use lib.ListN.{length}
-use lib.Seq.{length-sets}
 use Rattle.lsh.specs.WordSize.{lsh256}
-use Rattle.loops.specs.Rows.{expanded_words}
 use Rattle.loops.specs.Turns.{SteppedAhead}
-use Rattle.loops.proofs.Ahead.{ahead_more}
 use Rattle.groups256.proofs.odd_steps.Given as goal
 
 abbrev pub invariant-loop-count : goal.invariant-loop-count

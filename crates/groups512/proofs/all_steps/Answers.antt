@@ -1,9 +1,8 @@
 use mathlib.Core.Path.{◌∙◌}
-use Prim.Native.Nat.{◌-◌, ◌*◌, ◌≤◌}
+use Prim.Native.Nat.{◌-◌}
 use native.Mathlib.Omega.{arith}
-use borrow.Author.Rules.{rules}
 use Rattle.lsh.specs.WordSize.{lsh512}
-use Rattle.loops.proofs.Turns.{Stepped, stepped-none, stepped-is, stepped-one, stepped-two, stepped-all}
+use Rattle.loops.proofs.Turns.{stepped-none, stepped-is, stepped-one, stepped-two, stepped-all}
 use Rattle.groups512.proofs.all_steps.Goals as goal
 use Rattle.groups512.proofs.all_steps.Goals.{then-steps-eq1, else-steps-eq1}
 

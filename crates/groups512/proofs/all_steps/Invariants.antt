@@ -1,10 +1,6 @@
-use mathlib.Core.Path.{◌∙◌}
-use mathlib.Core.Logic.{⊎_elim}
 use Prim.Native.Nat.{◌-◌, ◌*◌, ◌≤◌}
-use native.Mathlib.Omega.{arith}
-use borrow.Author.Rules.{rules}
 use Rattle.lsh.specs.WordSize.{lsh512}
-use Rattle.loops.proofs.Turns.{Stepped, stepped-none, stepped-is, stepped-one, stepped-two, stepped-all}
+use Rattle.loops.proofs.Turns.{Stepped}
 use Rattle.groups512.proofs.all_steps.Given as goal
 
 abbrev pub invariant-loop-k : goal.invariant-loop-k

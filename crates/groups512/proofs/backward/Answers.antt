@@ -1,11 +1,10 @@
-use mathlib.Core.Path.{◌≡◌, sym, ◌∙◌}
-use Prim.Native.Nat.{◌-◌, ◌/◌}
+use mathlib.Core.Path.{sym, ◌∙◌}
+use Prim.Native.Nat.{◌-◌}
 use native.Mathlib.Omega.{arith}
 use borrow.Author.Rules.{rules}
-use lib.ListN.{length}
 use Rattle.lsh.specs.WordSize.{lsh512, block_bytes}
 use Rattle.loops.specs.Rows.{expanded_words}
-use Rattle.loops.proofs.Runs.{length_part, RunBackward, run-backward-none, run-backward-more, run-backward-all}
+use Rattle.loops.proofs.Runs.{length_part, run-backward-none, run-backward-more, run-backward-all}
 use Rattle.groups512.proofs.backward.Goals as goal
 
 pub loop-left-init : goal.loop-left-init

@@ -1,11 +1,9 @@
-use mathlib.Core.Path.{◌≡◌, refl, sym, ◌∙◌}
+use mathlib.Core.Path.{◌≡◌}
 use Prim.Native.Nat.{◌-◌, ◌/◌}
-use native.Mathlib.Omega.{arith}
-use borrow.Author.Rules.{rules}
 use lib.ListN.{length}
 use Rattle.lsh.specs.WordSize.{lsh512, block_bytes}
 use Rattle.loops.specs.Rows.{expanded_words}
-use Rattle.loops.proofs.Runs.{length_part, RunForward, run-forward-none, run-forward-more, run-forward-all}
+use Rattle.loops.proofs.Runs.{RunForward}
 use Rattle.groups512.proofs.forward.Given as goal
 
 abbrev pub invariant-loop-count : goal.invariant-loop-count

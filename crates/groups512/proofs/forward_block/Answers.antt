@@ -1,5 +1,4 @@
 use mathlib.Core.Path.{refl}
-use borrow.Author.Rules.{rules}
 use Rattle.lsh.specs.WordSize.{lsh512}
 use Rattle.loops.proofs.Turns.{run-to}
 use Rattle.groups512.proofs.forward_block.Goals as goal

@@ -1,5 +1,4 @@
 use native.Mathlib.Omega.{arith}
-use borrow.Author.Rules.{rules}
 use Rattle.lsh.specs.WordSize.{lsh512}
 use Rattle.loops.proofs.Turns.{unstepped-none, unstepped-is, unstepped-one}
 use Rattle.groups512.proofs.last_unstep.Goals as goal

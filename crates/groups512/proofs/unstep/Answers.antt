@@ -1,4 +1,3 @@
-use borrow.Author.Rules.{rules}
 use Rattle.lsh.specs.Step.{unstep}
 use Rattle.groups512.proofs.unstep.Goals as goal
 

@@ -1,10 +1,6 @@
-use mathlib.Core.Path.{◌≡◌, refl, sym, ◌∙◌}
-use Prim.Native.Nat.{◌-◌, ◌≤◌, zero-le}
+use mathlib.Core.Path.{refl, sym, ◌∙◌}
+use Prim.Native.Nat.{◌-◌, zero-le}
 use native.Mathlib.Omega.{arith}
-use lib.ListN.{length, drop}
-use borrow.Author.Rules.{rules}
-use borrow.Author.Tests.{not-true, not-false}
-use Rattle.hexadecimal.specs.Hex.{all_hex}
 use Rattle.hexadecimal.proofs.Digits.{hex-other, hex-more, hex-all}
 use Rattle.hexadecimal.proofs.all_hex.Goals as goal
 

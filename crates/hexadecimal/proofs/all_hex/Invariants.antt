@@ -1,12 +1,8 @@
 -- `hexadecimal::all_hex` meets its contract: before turn i all bytes passed are hexadecimal digits. Assumes nothing.
-use mathlib.Core.Path.{◌≡◌, refl, sym, ◌∙◌}
-use Prim.Native.Nat.{◌-◌, ◌≤◌, zero-le}
-use native.Mathlib.Omega.{arith}
+use mathlib.Core.Path.{◌≡◌}
+use Prim.Native.Nat.{◌-◌, ◌≤◌}
 use lib.ListN.{length, drop}
-use borrow.Author.Rules.{rules}
-use borrow.Author.Tests.{not-true, not-false}
 use Rattle.hexadecimal.specs.Hex.{all_hex}
-use Rattle.hexadecimal.proofs.Digits.{hex-other, hex-more, hex-all}
 use Rattle.hexadecimal.proofs.all_hex.Given as goal
 
 abbrev pub invariant-loop-i : goal.invariant-loop-i

@@ -1,8 +1,6 @@
 use Prim.Native.Nat.{◌-◌}
 use native.Mathlib.Omega.{arith}
-use borrow.Author.Rules.{rules}
-use Rattle.loops.proofs.Places.{Placed, placed-none, filled_more, stored-front}
-use Rattle.hexadecimal.specs.Hex.{byte_of}
+use Rattle.loops.proofs.Places.{placed-none, filled_more, stored-front}
 use Rattle.hexadecimal.proofs.decode.Goals as goal
 
 pub loop-i-init : goal.loop-i-init

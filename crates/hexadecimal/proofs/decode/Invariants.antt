@@ -1,8 +1,6 @@
 -- `hexadecimal::decode` meets its contract: before turn i the first i bytes are written. Assumes nothing.
 use Prim.Native.Nat.{◌-◌}
-use native.Mathlib.Omega.{arith}
-use borrow.Author.Rules.{rules}
-use Rattle.loops.proofs.Places.{Placed, placed-none, filled_more, stored-front}
+use Rattle.loops.proofs.Places.{Placed}
 use Rattle.hexadecimal.specs.Hex.{byte_of}
 use Rattle.hexadecimal.proofs.decode.Given as goal
 

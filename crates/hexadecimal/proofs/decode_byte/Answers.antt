@@ -1,7 +1,6 @@
 use mathlib.Core.Path.{ap₂}
 use Prim.Native.Nat.{ℕ, ◌+◌, ◌*◌}
 use native.Mathlib.Omega.{arith}
-use borrow.Author.Rules.{rules}
 use Rattle.hexadecimal.specs.Hex.{byte_of}
 use Rattle.hexadecimal.proofs.Digits.{hex-at}
 use Rattle.hexadecimal.proofs.decode_byte.Goals as goal

@@ -1,5 +1,4 @@
 use native.Mathlib.Omega.{arith}
-use borrow.Author.Rules.{rules}
 use borrow.Author.Tests.{lt-ltb, le-ltb}
 use Rattle.hexadecimal.specs.Hex.{hex_value}
 use Rattle.hexadecimal.proofs.Digits.{digit_low, digit-high, hex-decimal, hex-letter}

@@ -1,4 +1,3 @@
-use borrow.Author.Rules.{rules}
 use borrow.Author.Tests.{eq-eqb, ne_eqb}
 use Rattle.hexadecimal.specs.Hex.{is_dash}
 use Rattle.hexadecimal.proofs.is_dash.Goals as goal

@@ -1,4 +1,3 @@
-use borrow.Author.Rules.{rules}
 use borrow.Author.Tests.{eq-eqb, ne_eqb}
 use Rattle.hexadecimal.specs.Hex.{is_hex_bytes}
 use Rattle.hexadecimal.proofs.is_hex_bytes.Goals as goal

@@ -1,4 +1,3 @@
-use borrow.Author.Rules.{rules}
 use borrow.Author.Tests.{lt-ltb, le-ltb}
 use Rattle.hexadecimal.specs.Hex.{is_hex_digit}
 use Rattle.hexadecimal.proofs.is_hex_digit.Goals as goal

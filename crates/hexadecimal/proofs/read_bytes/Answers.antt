@@ -1,7 +1,5 @@
 use mathlib.Core.Path.{sym, ◌∙◌}
 use Prim.Native.Nat.{zero-le}
-use borrow.Author.Tests.{not-true, not-false}
-use borrow.Author.Rules.{rules}
 use Rattle.hexadecimal.proofs.Digits.{all-hex-of, dash-length, dash-written, other_length, other-written, short-length, short-written, some-length, some_written}
 use Rattle.hexadecimal.proofs.read_bytes.Goals as goal
 

@@ -2,7 +2,6 @@ use mathlib.Core.Path.{◌≡◌, ap, ◌∙◌}
 use Prim.Native.Nat.{ℕ, ◌+◌, ◌/◌}
 use native.Mathlib.Omega.{arith}
 use lib.ListN.{take}
-use borrow.Author.Rules.{rules}
 use Rattle.limits.proofs.Limits.{digest-most}
 use Rattle.finalization.proofs.MessageChain.{run-chain}
 use Rattle.hmac.proofs.digest_on.Goals as goal

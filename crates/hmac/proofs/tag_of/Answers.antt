@@ -1,5 +1,4 @@
 use mathlib.Core.Path.{◌∙◌}
-use borrow.Author.Rules.{rules}
 use Rattle.limits.proofs.Limits.{digest-most}
 use Rattle.tags.specs.Hmac.{outer_key, tag_of}
 use Rattle.hmac.proofs.tag_of.Goals as goal

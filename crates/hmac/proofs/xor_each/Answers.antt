@@ -7,9 +7,8 @@ use mir.Syntax.{w8}
 use mir.Val.{Fits}
 use borrow.Author.Rules.{rules}
 use Rattle.lsh.specs.Tabulate.{at}
-use Rattle.lsh.specs.Word.{xor}
 use Rattle.loops.proofs.Machine.{xor_is}
-use Rattle.loops.proofs.Places.{Placed, placed-none, filled_more, filled-all}
+use Rattle.loops.proofs.Places.{placed-none, filled_more, filled-all}
 use Rattle.limits.specs.Limits.{longest_block}
 use Rattle.tags.specs.Hmac.{xor_each}
 use Rattle.hmac.proofs.xor_each.Goals as goal

@@ -1,10 +1,7 @@
-use mathlib.Core.List.{List}
-use Prim.Native.Nat.{ℕ, ◌*◌, ◌≤◌}
 use native.Mathlib.Omega.{arith}
 use borrow.Author.Rules.{rules}
 use Rattle.lsh.specs.WordSize.{lsh256}
 use Rattle.loops.specs.Rows.{expanded_words}
-use Rattle.loops.specs.Turns.{RunBack}
 use Rattle.loops.proofs.Turns.{unstepped-none, unstepped-is, unstepped-two}
 use Rattle.lsh256.proofs.all_unsteps.Goals as goal
 

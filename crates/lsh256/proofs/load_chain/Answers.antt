@@ -1,9 +1,9 @@
 use mathlib.Core.Path.{refl}
-use Prim.Native.Nat.{◌-◌, ◌*◌}
+use Prim.Native.Nat.{◌-◌}
 use native.Mathlib.Omega.{arith}
 use Rattle.lsh.specs.WordSize.{lsh256, word_bytes, chain_bytes}
-use Rattle.lsh.specs.Bytes.{word_at, words_of}
-use Rattle.loops.proofs.Places.{Placed, placed-none, filled_more, filled-all}
+use Rattle.lsh.specs.Bytes.{words_of}
+use Rattle.loops.proofs.Places.{placed-none, filled_more, filled-all}
 use Rattle.lsh256.proofs.load_chain.Goals as goal
 
 pub loop-l-init : goal.loop-l-init

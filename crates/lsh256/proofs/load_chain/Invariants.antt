@@ -1,9 +1,6 @@
-use mathlib.Core.Path.{refl}
 use Prim.Native.Nat.{◌-◌, ◌*◌}
-use native.Mathlib.Omega.{arith}
-use Rattle.lsh.specs.WordSize.{lsh256, word_bytes, chain_bytes}
-use Rattle.lsh.specs.Bytes.{word_at, words_of}
-use Rattle.loops.proofs.Places.{Placed, placed-none, filled_more, filled-all}
+use Rattle.lsh.specs.Bytes.{word_at}
+use Rattle.loops.proofs.Places.{Placed}
 use Rattle.lsh256.proofs.load_chain.Given as goal
 
 abbrev pub invariant-loop-l : goal.invariant-loop-l

@@ -1,11 +1,7 @@
-use mathlib.Core.Path.{refl}
 use Prim.Native.Nat.{◌+◌, ◌-◌, ◌*◌, ◌≤◌}
-use native.Mathlib.Omega.{arith}
 use lib.ListN.{length}
 use Rattle.lsh.specs.Tabulate.{at}
-use Rattle.lsh.specs.WordSize.{lsh256}
-use Rattle.loops.specs.Rows.{expanded_words}
-use Rattle.loops.proofs.Places.{Placed, placed-none, placed-more, copied_all}
+use Rattle.loops.proofs.Places.{Placed}
 use Rattle.lsh256.proofs.put_sub_message.Given as goal
 
 abbrev pub invariant-loop-l : goal.invariant-loop-l

@@ -1,9 +1,6 @@
 use Prim.Native.Nat.{◌-◌, ◌*◌, ◌≤◌}
-use native.Mathlib.Omega.{arith}
-use borrow.Author.Rules.{rules}
 use Rattle.lsh.specs.WordSize.{lsh256}
-use Rattle.loops.specs.Rows.{expanded_words}
-use Rattle.loops.proofs.Turns.{Stepped, stepped-none, stepped-is, stepped-one, stepped-all}
+use Rattle.loops.proofs.Turns.{Stepped}
 use Rattle.lsh256.proofs.some_steps.Given as goal
 
 abbrev pub invariant-loop-k : goal.invariant-loop-k

@@ -1,8 +1,8 @@
-use Prim.Native.Nat.{◌-◌, ◌*◌, ◌≤◌}
+use Prim.Native.Nat.{◌-◌}
 use native.Mathlib.Omega.{arith}
 use borrow.Author.Rules.{rules}
 use Rattle.lsh.specs.WordSize.{lsh512}
-use Rattle.loops.proofs.Turns.{Stepped, stepped-none, stepped-two, stepped-all}
+use Rattle.loops.proofs.Turns.{stepped-none, stepped-two, stepped-all}
 use Rattle.lsh512.proofs.all_steps.Goals as goal
 
 pub loop-k-init : goal.loop-k-init

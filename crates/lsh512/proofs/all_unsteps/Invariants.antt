@@ -1,10 +1,7 @@
 use mathlib.Core.List.{List}
 use Prim.Native.Nat.{ℕ, ◌*◌, ◌≤◌}
-use native.Mathlib.Omega.{arith}
-use borrow.Author.Rules.{rules}
 use Rattle.lsh.specs.WordSize.{lsh512}
 use Rattle.loops.specs.Turns.{RunBack}
-use Rattle.loops.proofs.Turns.{unstepped-none, unstepped-is, unstepped-two}
 use Rattle.lsh512.proofs.all_unsteps.Given as goal
 
 abbrev pub invariant-loop-k : goal.invariant-loop-k

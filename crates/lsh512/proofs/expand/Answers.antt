@@ -1,11 +1,8 @@
-use mathlib.Core.Path.{◌≡◌, sym, ◌∙◌}
-use Prim.Native.Nat.{◌+◌, ◌-◌}
+use mathlib.Core.Path.{sym, ◌∙◌}
+use Prim.Native.Nat.{◌-◌}
 use native.Mathlib.Omega.{arith}
-use borrow.Author.Rules.{rules}
-use lib.ListN.{length, take}
 use Rattle.lsh.specs.WordSize.{lsh512}
-use Rattle.lsh.specs.Expansion.{sub_message}
-use Rattle.loops.specs.Rows.{expanded_words, Expanded}
+use Rattle.loops.specs.Rows.{expanded_words}
 use Rattle.loops.proofs.Rows.{sub-next, expanded-none, expanded-more, expanded-up_to}
 use Rattle.lsh512.proofs.expand.Goals as goal
 

@@ -1,12 +1,9 @@
-use mathlib.Core.Path.{◌≡◌, sym, ◌∙◌}
+use mathlib.Core.Path.{◌≡◌}
 use Prim.Native.Nat.{◌+◌, ◌-◌}
-use native.Mathlib.Omega.{arith}
-use borrow.Author.Rules.{rules}
 use lib.ListN.{length, take}
 use Rattle.lsh.specs.WordSize.{lsh512}
 use Rattle.lsh.specs.Expansion.{sub_message}
 use Rattle.loops.specs.Rows.{expanded_words, Expanded}
-use Rattle.loops.proofs.Rows.{sub-next, expanded-none, expanded-more, expanded-up_to}
 use Rattle.lsh512.proofs.expand.Given as goal
 
 abbrev pub invariant-loop-j : goal.invariant-loop-j

@@ -1,5 +1,4 @@
 use native.Mathlib.Omega.{arith}
-use borrow.Author.Rules.{rules}
 use Rattle.lsh.specs.WordSize.{lsh512}
 use Rattle.lsh.proofs.Bytes.{length-words}
 use Rattle.loops.specs.Rows.{expanded_words}

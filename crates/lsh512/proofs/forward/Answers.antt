@@ -1,11 +1,10 @@
-use mathlib.Core.Path.{◌≡◌, refl, sym, ◌∙◌}
-use Prim.Native.Nat.{◌-◌, ◌/◌}
+use mathlib.Core.Path.{refl, sym, ◌∙◌}
+use Prim.Native.Nat.{◌-◌}
 use native.Mathlib.Omega.{arith}
 use borrow.Author.Rules.{rules}
-use lib.ListN.{length}
 use Rattle.lsh.specs.WordSize.{lsh512, block_bytes}
 use Rattle.loops.specs.Rows.{expanded_words}
-use Rattle.loops.proofs.Runs.{length_part, RunForward, run-forward-none, run-forward-more, run-forward-all}
+use Rattle.loops.proofs.Runs.{length_part, run-forward-none, run-forward-more, run-forward-all}
 use Rattle.lsh512.proofs.forward.Goals as goal
 
 pub loop-count-init : goal.loop-count-init

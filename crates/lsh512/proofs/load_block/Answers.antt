@@ -1,11 +1,9 @@
-use mathlib.Core.Path.{◌≡◌}
-use Prim.Native.Nat.{◌-◌, ◌*◌}
+use Prim.Native.Nat.{◌-◌}
 use native.Mathlib.Omega.{arith}
-use lib.ListN.{length}
 use Rattle.lsh.specs.WordSize.{lsh512, word_bytes, block_bytes}
-use Rattle.lsh.specs.Bytes.{word_at, words_of}
+use Rattle.lsh.specs.Bytes.{words_of}
 use Rattle.loops.specs.Rows.{expanded_words}
-use Rattle.loops.proofs.Places.{Placed, placed-none, filled_more, stored-front}
+use Rattle.loops.proofs.Places.{placed-none, filled_more, stored-front}
 use Rattle.lsh512.proofs.load_block.Goals as goal
 
 pub loop-l-init : goal.loop-l-init

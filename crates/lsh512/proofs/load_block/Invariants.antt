@@ -1,11 +1,10 @@
 use mathlib.Core.Path.{◌≡◌}
 use Prim.Native.Nat.{◌-◌, ◌*◌}
-use native.Mathlib.Omega.{arith}
 use lib.ListN.{length}
-use Rattle.lsh.specs.WordSize.{lsh512, word_bytes, block_bytes}
-use Rattle.lsh.specs.Bytes.{word_at, words_of}
+use Rattle.lsh.specs.WordSize.{lsh512}
+use Rattle.lsh.specs.Bytes.{word_at}
 use Rattle.loops.specs.Rows.{expanded_words}
-use Rattle.loops.proofs.Places.{Placed, placed-none, filled_more, stored-front}
+use Rattle.loops.proofs.Places.{Placed}
 use Rattle.lsh512.proofs.load_block.Given as goal
 
 abbrev pub invariant-loop-l : goal.invariant-loop-l

@@ -1,13 +1,11 @@
 use mathlib.Core.Path.{refl}
 use Prim.Native.Nat.{◌-◌}
 use native.Mathlib.Omega.{arith}
-use borrow.Author.Rules.{rules}
-use Rattle.lsh.specs.Tabulate.{at}
 use Rattle.lsh.specs.Word.{add}
 use Rattle.lsh.specs.WordSize.{lsh512, tau}
 use Rattle.lsh.specs.Expansion.{next_sub_message}
 use Rattle.lsh.proofs.Permutation.{tau-permutes}
-use Rattle.loops.proofs.Places.{Placed, placed-none, filled_more, filled-all}
+use Rattle.loops.proofs.Places.{placed-none, filled_more, filled-all}
 use Rattle.lsh512.proofs.next_sub_message.Goals as goal
 
 pub loop-l-init : goal.loop-l-init

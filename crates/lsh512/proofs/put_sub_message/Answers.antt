@@ -1,11 +1,9 @@
 use mathlib.Core.Path.{refl}
-use Prim.Native.Nat.{◌+◌, ◌-◌, ◌*◌, ◌≤◌}
+use Prim.Native.Nat.{◌-◌}
 use native.Mathlib.Omega.{arith}
-use lib.ListN.{length}
-use Rattle.lsh.specs.Tabulate.{at}
 use Rattle.lsh.specs.WordSize.{lsh512}
 use Rattle.loops.specs.Rows.{expanded_words}
-use Rattle.loops.proofs.Places.{Placed, placed-none, placed-more, copied_all}
+use Rattle.loops.proofs.Places.{placed-none, placed-more, copied_all}
 use Rattle.lsh512.proofs.put_sub_message.Goals as goal
 
 pub loop-l-init : goal.loop-l-init

@@ -1,8 +1,7 @@
-use Prim.Native.Nat.{◌-◌, ◌*◌, ◌≤◌}
+use Prim.Native.Nat.{◌-◌}
 use native.Mathlib.Omega.{arith}
-use borrow.Author.Rules.{rules}
 use Rattle.lsh.specs.WordSize.{lsh512}
-use Rattle.loops.proofs.Turns.{Stepped, stepped-none, stepped-is, stepped-one, stepped-all}
+use Rattle.loops.proofs.Turns.{stepped-none, stepped-is, stepped-one, stepped-all}
 use Rattle.lsh512.proofs.some_steps.Goals as goal
 
 pub loop-k-init : goal.loop-k-init

@@ -1,8 +1,6 @@
 use Prim.Native.Nat.{◌-◌, ◌*◌, ◌≤◌}
-use native.Mathlib.Omega.{arith}
-use borrow.Author.Rules.{rules}
 use Rattle.lsh.specs.WordSize.{lsh512}
-use Rattle.loops.proofs.Turns.{Stepped, stepped-none, stepped-is, stepped-one, stepped-all}
+use Rattle.loops.proofs.Turns.{Stepped}
 use Rattle.lsh512.proofs.some_steps.Given as goal
 
 abbrev pub invariant-loop-k : goal.invariant-loop-k

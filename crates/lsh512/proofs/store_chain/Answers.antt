@@ -3,7 +3,7 @@ use Prim.Native.Nat.{◌-◌}
 use native.Mathlib.Omega.{arith}
 use lib.ListN.{length}
 use Rattle.lsh.specs.WordSize.{lsh512, word_bytes, chain_bytes}
-use Rattle.loops.proofs.Words.{Stored, stored-none, stored_more, stored-all}
+use Rattle.loops.proofs.Words.{stored-none, stored_more, stored-all}
 use Rattle.lsh512.proofs.store_chain.Goals as goal
 
 pub loop-l-init : goal.loop-l-init

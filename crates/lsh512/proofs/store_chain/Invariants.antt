@@ -1,9 +1,8 @@
-use mathlib.Core.Path.{◌≡◌, sym, ◌∙◌}
+use mathlib.Core.Path.{◌≡◌}
 use Prim.Native.Nat.{◌-◌}
-use native.Mathlib.Omega.{arith}
 use lib.ListN.{length}
-use Rattle.lsh.specs.WordSize.{lsh512, word_bytes, chain_bytes}
-use Rattle.loops.proofs.Words.{Stored, stored-none, stored_more, stored-all}
+use Rattle.lsh.specs.WordSize.{lsh512, chain_bytes}
+use Rattle.loops.proofs.Words.{Stored}
 use Rattle.lsh512.proofs.store_chain.Given as goal
 
 abbrev pub invariant-loop-l : goal.invariant-loop-l

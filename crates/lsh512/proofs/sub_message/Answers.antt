@@ -1,10 +1,9 @@
 use mathlib.Core.Path.{refl}
-use Prim.Native.Nat.{◌+◌, ◌-◌, ◌*◌}
+use Prim.Native.Nat.{◌-◌}
 use native.Mathlib.Omega.{arith}
-use Rattle.lsh.specs.Tabulate.{at}
 use Rattle.lsh.specs.WordSize.{lsh512}
 use Rattle.loops.specs.Rows.{expanded_words, row}
-use Rattle.loops.proofs.Places.{Placed, placed-none, filled_more, filled-all}
+use Rattle.loops.proofs.Places.{placed-none, filled_more, filled-all}
 use Rattle.lsh512.proofs.sub_message.Goals as goal
 
 pub loop-l-init : goal.loop-l-init

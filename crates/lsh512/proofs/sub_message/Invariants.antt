@@ -1,10 +1,6 @@
-use mathlib.Core.Path.{refl}
 use Prim.Native.Nat.{◌+◌, ◌-◌, ◌*◌}
-use native.Mathlib.Omega.{arith}
 use Rattle.lsh.specs.Tabulate.{at}
-use Rattle.lsh.specs.WordSize.{lsh512}
-use Rattle.loops.specs.Rows.{expanded_words, row}
-use Rattle.loops.proofs.Places.{Placed, placed-none, filled_more, filled-all}
+use Rattle.loops.proofs.Places.{Placed}
 use Rattle.lsh512.proofs.sub_message.Given as goal
 
 abbrev pub invariant-loop-l : goal.invariant-loop-l

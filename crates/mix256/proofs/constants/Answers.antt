@@ -1,10 +1,8 @@
 use mathlib.Core.Path.{refl}
-use Prim.Native.Nat.{◌-◌}
 use native.Mathlib.Omega.{arith}
 use Rattle.lsh.specs.WordSize.{lsh256}
-use Rattle.lsh.specs.StepConstants.{constant}
 use Rattle.loops.proofs.Constants.{at_constant}
-use Rattle.loops.proofs.Places.{Placed, placed-none, filled_more, filled-all}
+use Rattle.loops.proofs.Places.{placed-none, filled_more, filled-all}
 use Rattle.mix256.proofs.constants.Goals as goal
 
 pub loop-l-init : goal.loop-l-init

@@ -1,10 +1,7 @@
-use mathlib.Core.Path.{refl}
 use Prim.Native.Nat.{◌-◌}
-use native.Mathlib.Omega.{arith}
 use Rattle.lsh.specs.WordSize.{lsh256}
 use Rattle.lsh.specs.StepConstants.{constant}
-use Rattle.loops.proofs.Constants.{at_constant}
-use Rattle.loops.proofs.Places.{Placed, placed-none, filled_more, filled-all}
+use Rattle.loops.proofs.Places.{Placed}
 use Rattle.mix256.proofs.constants.Given as goal
 
 abbrev pub invariant-loop-l : goal.invariant-loop-l

@@ -1,9 +1,7 @@
 use mathlib.Core.Path.{refl}
-use Prim.Native.Nat.{◌+◌, ◌-◌}
 use native.Mathlib.Omega.{arith}
-use Rattle.lsh.specs.Tabulate.{at}
 use Rattle.loops.specs.Fours.{four}
-use Rattle.loops.proofs.Places.{Placed, placed-none, filled_more, filled-all}
+use Rattle.loops.proofs.Places.{placed-none, filled_more, filled-all}
 use Rattle.mix256.proofs.four.Goals as goal
 
 pub loop-i-init : goal.loop-i-init

@@ -2,7 +2,6 @@ use mathlib.Core.Path.{ap₂, ◌∙◌}
 use mathlib.Core.List.{List}
 use Prim.Native.Nat.{ℕ}
 use native.Mathlib.Omega.{arith}
-use borrow.Author.Rules.{rules}
 use Rattle.lsh.specs.WordSize.{lsh256}
 use Rattle.groups.specs.GroupStep.{pair, mix_pair}
 use Rattle.loops.proofs.Groups.{four-of-row, mixed-by-groups}

@@ -1,4 +1,3 @@
-use borrow.Author.Rules.{rules}
 use Rattle.lsh.specs.WordSize.{lsh256}
 use Rattle.lsh.proofs.Figures.{amounts256}
 use Rattle.groups.specs.GroupStep.{mix_pair}

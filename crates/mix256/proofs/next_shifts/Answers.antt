@@ -1,4 +1,3 @@
-use borrow.Author.Rules.{rules}
 use Rattle.mix256.proofs.Amounts.{next-shifts-are}
 use Rattle.mix256.proofs.next_shifts.Goals as goal
 

@@ -1,4 +1,3 @@
-use borrow.Author.Rules.{rules}
 use Rattle.lsh.specs.Tabulate.{tabulate, tabulate_from}
 use Rattle.groups.specs.Group.{wordwise}
 use Rattle.mix256.proofs.subtract.Goals as goal

@@ -1,13 +1,9 @@
-use mathlib.Core.Path.{◌≡◌, refl}
+use mathlib.Core.Path.{◌≡◌}
 use Prim.Native.Nat.{ℕ, ◌+◌, ◌-◌, ◌*◌, ◌%◌, ◌<◌}
-use native.Mathlib.Omega.{arith}
-use borrow.Author.Rules.{rules}
-use Rattle.lsh.specs.Tabulate.{at, tabulate, tabulate_from}
+use Rattle.lsh.specs.Tabulate.{at}
 use Rattle.lsh.specs.Word.{rotate_left}
-use Rattle.groups.specs.Group.{group, wordwise}
-use Rattle.loops.proofs.Places.{Placed, placed-none, filled_more, filled-all}
+use Rattle.loops.proofs.Places.{Placed}
 use Rattle.mix256.specs.Amounts.{powers}
-use Rattle.mix256.proofs.Amounts.{at-powers}
 use Rattle.mix256.proofs.turn_by_powers.Given as goal
 
 abbrev pub invariant-loop-i : goal.invariant-loop-i

@@ -1,5 +1,5 @@
 use Prim.Native.Nat.{◌%◌}
-use borrow.Author.Rules.{rules, elem_Fits}
+use borrow.Author.Rules.{elem_Fits}
 use mir.Syntax.{w32}
 use Rattle.lsh.specs.WordSize.{lsh256}
 use Rattle.lsh.proofs.Figures.{amounts256}

@@ -1,4 +1,3 @@
-use borrow.Author.Rules.{rules}
 use Rattle.lsh.specs.Tabulate.{tabulate, tabulate_from}
 use Rattle.groups.specs.Group.{each_word, wordwise}
 use Rattle.mix256.proofs.xor_turned_each.Goals as goal

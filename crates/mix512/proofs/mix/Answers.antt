@@ -1,4 +1,3 @@
-use borrow.Author.Rules.{rules}
 use Rattle.lsh.specs.WordSize.{lsh512}
 use Rattle.loops.proofs.Groups.{mixed-by-groups}
 use Rattle.mix512.proofs.mix.Goals as goal

@@ -1,5 +1,3 @@
-use native.Mathlib.Omega.{arith}
-use borrow.Author.Rules.{rules}
 use Rattle.lsh.proofs.Figures.{amounts512}
 use Rattle.mix512.proofs.mix_word.Goals as goal
 

@@ -1,4 +1,3 @@
-use borrow.Author.Rules.{rules}
 use Rattle.lsh.specs.WordSize.{lsh512}
 use Rattle.loops.proofs.Groups.{unmixed-by-groups}
 use Rattle.mix512.proofs.unmix.Goals as goal

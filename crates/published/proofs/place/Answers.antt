@@ -1,4 +1,4 @@
-use Prim.Native.Nat.{◌-◌, ◌≤◌}
+use Prim.Native.Nat.{◌-◌}
 use native.Mathlib.Omega.{arith}
 use Rattle.published.specs.Published.{published_sizes, published_lengths}
 use Rattle.published.proofs.place.Goals as goal

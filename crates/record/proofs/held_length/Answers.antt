@@ -1,6 +1,5 @@
 use mathlib.Core.Path.{ap}
 use Prim.Native.Nat.{ℕ, ◌%◌}
-use borrow.Author.Rules.{rules}
 use Rattle.lsh.proofs.Figures.{block-some}
 use Rattle.record.proofs.held_length.Goals as goal
 

@@ -1,4 +1,3 @@
-use borrow.Author.Rules.{rules}
 use Rattle.orders.specs.Split.{none_begun}
 use Rattle.record.proofs.is_none_begun.Goals as goal
 

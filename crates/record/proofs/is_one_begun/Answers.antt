@@ -1,4 +1,3 @@
-use borrow.Author.Rules.{rules}
 use Rattle.lsh.proofs.Figures.{block-some}
 use Rattle.orders.specs.Split.{one_begun}
 use Rattle.record.proofs.is_one_begun.Goals as goal

@@ -1,4 +1,3 @@
-use borrow.Author.Rules.{rules}
 use Rattle.orders.specs.Record.{zeros}
 use Rattle.record.proofs.no_record.Goals as goal
 

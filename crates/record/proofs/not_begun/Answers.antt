@@ -1,4 +1,3 @@
-use borrow.Author.Rules.{rules}
 use Rattle.orders.specs.Split.{not_begun}
 use Rattle.record.proofs.not_begun.Goals as goal
 

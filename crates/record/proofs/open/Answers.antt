@@ -1,10 +1,8 @@
 use mathlib.Core.Path.{◌≡◌, sym, ◌∙◌}
 use mathlib.Core.Bool.{true}
-use borrow.Author.Rules.{rules}
-use borrow.Author.Tests.{not-true, not-false}
 use Rattle.lsh.specs.WordSize.{is_word_size}
 use Rattle.limits.specs.Limits.{is_digest_length}
-use Rattle.orders.specs.Open.{opened, open_call}
+use Rattle.orders.specs.Open.{open_call}
 use Rattle.record.proofs.open.Goals as goal
 use Rattle.record.proofs.open.Goals.{Else-not-is_digest_length, Else-not-is_word_size}
 

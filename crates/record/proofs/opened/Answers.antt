@@ -1,4 +1,3 @@
-use borrow.Author.Rules.{rules}
 use Rattle.limits.proofs.Limits.{digest-most}
 use Rattle.orders.specs.Record.{held_of}
 use Rattle.orders.specs.Open.{opened}

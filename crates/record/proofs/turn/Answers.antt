@@ -1,8 +1,6 @@
 -- `record::turn` meets its contract, test by test. Assumes nothing.
 use mathlib.Core.Path.{◌≡◌, sym, ◌∙◌}
 use mathlib.Core.Bool.{true}
-use borrow.Author.Rules.{rules}
-use borrow.Author.Tests.{not-true, not-false}
 use Rattle.orders.specs.Record.{sound}
 use Rattle.orders.specs.Turn.{turn_answer}
 use Rattle.record.proofs.turn.Goals as goal

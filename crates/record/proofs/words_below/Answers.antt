@@ -1,15 +1,14 @@
 use mathlib.Core.Path.{◌≡◌, refl, sym}
 use mathlib.Core.Bool.{true}
-use Prim.Native.Nat.{ℕ, ◌-◌, ◌^◌, ◌≤◌, zero-le}
+use Prim.Native.Nat.{ℕ, ◌-◌, ◌^◌, zero-le}
 use native.Mathlib.Omega.{arith}
 use mir.Syntax.{w64}
 use mir.Val.{Fits}
-use lib.ListN.{length, drop, get_or, drop_of_length-le}
+use lib.ListN.{get_or, drop_of_length-le}
 use borrow.Author.Rules.{rules}
 use borrow.Author.Tests.{lt-ltb, le-ltb}
 use Rattle.lsh.specs.WordSize.{is_word_size}
 use Rattle.lsh.proofs.Figures.{by_size}
-use Rattle.lists.specs.Lists.{all_below}
 use Rattle.lists.proofs.Lists.{below_at, all-below}
 use Rattle.record.proofs.words_below.Goals as goal
 use Rattle.record.proofs.words_below.Goals.{Then-w-eq64}

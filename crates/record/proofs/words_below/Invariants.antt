@@ -1,17 +1,8 @@
 -- `record::words_below` meets its contract: before turn i the words before place i are below 2 ^ 32. Assumes nothing.
-use mathlib.Core.Path.{◌≡◌, refl, sym}
-use mathlib.Core.Bool.{true}
-use Prim.Native.Nat.{ℕ, ◌-◌, ◌^◌, ◌≤◌, zero-le}
-use native.Mathlib.Omega.{arith}
-use mir.Syntax.{w64}
-use mir.Val.{Fits}
-use lib.ListN.{length, drop, get_or, drop_of_length-le}
-use borrow.Author.Rules.{rules}
-use borrow.Author.Tests.{lt-ltb, le-ltb}
-use Rattle.lsh.specs.WordSize.{is_word_size}
-use Rattle.lsh.proofs.Figures.{by_size}
+use mathlib.Core.Path.{◌≡◌}
+use Prim.Native.Nat.{◌-◌, ◌^◌, ◌≤◌}
+use lib.ListN.{length, drop}
 use Rattle.lists.specs.Lists.{all_below}
-use Rattle.lists.proofs.Lists.{below_at, all-below}
 use Rattle.record.proofs.words_below.Given as goal
 
 abbrev pub invariant-loop-i : goal.invariant-loop-i

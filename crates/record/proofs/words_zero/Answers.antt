@@ -1,9 +1,8 @@
-use mathlib.Core.Path.{◌≡◌, refl}
-use Prim.Native.Nat.{◌-◌, ◌≤◌, zero-le}
+use mathlib.Core.Path.{refl}
+use Prim.Native.Nat.{◌-◌, zero-le}
 use native.Mathlib.Omega.{arith}
-use lib.ListN.{length}
 use borrow.Author.Rules.{rules}
-use Rattle.lists.proofs.Lists.{Zeros, zeros-more, zeros-all}
+use Rattle.lists.proofs.Lists.{zeros-more, zeros-all}
 use Rattle.record.proofs.words_zero.Goals as goal
 
 pub loop-i-init : goal.loop-i-init

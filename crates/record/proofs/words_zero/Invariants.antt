@@ -1,10 +1,8 @@
 -- `record::words_zero` meets its contract: before turn i the flag says whether the words before place i are 0. Assumes nothing.
-use mathlib.Core.Path.{◌≡◌, refl}
-use Prim.Native.Nat.{◌-◌, ◌≤◌, zero-le}
-use native.Mathlib.Omega.{arith}
+use mathlib.Core.Path.{◌≡◌}
+use Prim.Native.Nat.{◌-◌, ◌≤◌}
 use lib.ListN.{length}
-use borrow.Author.Rules.{rules}
-use Rattle.lists.proofs.Lists.{Zeros, zeros-more, zeros-all}
+use Rattle.lists.proofs.Lists.{Zeros}
 use Rattle.record.proofs.words_zero.Given as goal
 
 abbrev pub invariant-loop-i : goal.invariant-loop-i

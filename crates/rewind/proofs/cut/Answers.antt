@@ -1,7 +1,6 @@
 use mathlib.Core.Path.{sym, ◌∙◌}
 use lib.Seq.{length-take-le}
 use native.Mathlib.Omega.{arith}
-use borrow.Author.Rules.{rules}
 use Rattle.limits.specs.Limits.{limit}
 use Rattle.limits.proofs.Limits.{block-most}
 use Rattle.orders.specs.Record.{held_of}

@@ -1,7 +1,6 @@
 use mathlib.Core.Path.{◌≡◌, sym, ◌∙◌}
 use mathlib.Core.Bool.{false}
 use lib.ListN.{length}
-use borrow.Author.Rules.{rules}
 use Rattle.lsh.specs.WordSize.{size_of, block_bytes}
 use Rattle.orders.specs.Rewind.{starts_off_block, rewind_in_turn}
 use Rattle.rewind.proofs.in_turn.Goals as goal

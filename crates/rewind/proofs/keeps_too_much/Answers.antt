@@ -1,4 +1,3 @@
-use borrow.Author.Rules.{rules}
 use borrow.Author.Tests.{lt-ltb, le-ltb}
 use Rattle.orders.specs.Rewind.{keeps_too_much}
 use Rattle.rewind.proofs.keeps_too_much.Goals as goal

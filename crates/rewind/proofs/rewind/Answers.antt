@@ -1,6 +1,5 @@
 use mathlib.Core.Path.{◌≡◌, sym, ◌∙◌}
 use mathlib.Core.Bool.{true, false}
-use borrow.Author.Rules.{rules}
 use Rattle.orders.specs.Record.{sound, is_begun}
 use Rattle.orders.proofs.InTurn.{turn-refused, turn-passed, in-turn}
 use Rattle.orders.specs.Rewind.{rewind_call}

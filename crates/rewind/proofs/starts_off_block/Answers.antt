@@ -1,4 +1,3 @@
-use borrow.Author.Rules.{rules}
 use borrow.Author.Tests.{lt-ltb, le-ltb}
 use Rattle.lsh.proofs.Figures.{block-some}
 use Rattle.orders.specs.Rewind.{starts_off_block}

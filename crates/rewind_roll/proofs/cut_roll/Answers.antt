@@ -1,7 +1,6 @@
 -- `rewind_roll::cut_roll` visits its contract, by the answer. Assumes nothing.
 use mathlib.Core.Path.{sym, ap, ◌∙◌}
 use Prim.Native.Nat.{ℕ}
-use borrow.Author.Rules.{rules}
 use Rattle.lsh.specs.WordSize.{size_of}
 use Rattle.checkpoints.specs.Checkpoints.{unlinked}
 use Rattle.checkpoints.proofs.InTurn.{roll-stays}

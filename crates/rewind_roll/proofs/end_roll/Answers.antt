@@ -1,6 +1,5 @@
 -- `rewind_roll::end_roll` visits its contract. Assumes nothing.
 use mathlib.Core.Path.{ap, ◌∙◌}
-use borrow.Author.Rules.{rules}
 use Rattle.orders.specs.declared.Outcome.{Outcome}
 use Rattle.checkpoints.specs.RewindRoll.{cut_roll}
 use Rattle.checkpoints.specs.EndRoll.{end_roll_call, ended_roll}

@@ -1,7 +1,6 @@
 -- `rewind_roll::ended` visits its contract. Assumes nothing.
 use mathlib.Core.Path.{sym, ap, ◌∙◌}
 use mathlib.Core.Bool.{not}
-use borrow.Author.Rules.{rules}
 use borrow.Author.Tests.{not-false}
 use Rattle.checkpoints.proofs.InTurn.{roll-refused, roll-rest}
 use Rattle.checkpoints.specs.EndRoll.{end_roll_call}

@@ -1,6 +1,5 @@
 -- `rewind_roll::rewind_roll` visits its contract. Assumes nothing.
 use mathlib.Core.Path.{ap, ◌∙◌}
-use borrow.Author.Rules.{rules}
 use Rattle.orders.specs.declared.Outcome.{Outcome}
 use Rattle.checkpoints.specs.RewindRoll.{cut_roll, rewind_roll_call, rewound_roll}
 use Rattle.checkpoints.proofs.Rewinding.{accepted-roll}

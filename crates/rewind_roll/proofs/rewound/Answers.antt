@@ -1,6 +1,5 @@
 -- `rewind_roll::rewound` visits its contract. Assumes nothing.
 use mathlib.Core.Path.{◌∙◌}
-use borrow.Author.Rules.{rules}
 use Rattle.checkpoints.proofs.InTurn.{roll-refused, roll-rest}
 use Rattle.checkpoints.specs.RewindRoll.{rewind_roll_call}
 use Rattle.rewind_roll.proofs.rewound.Goals as goal

@@ -1,5 +1,4 @@
 -- `roll::checkpoints` visits its contract. Assumes nothing.
-use borrow.Author.Rules.{rules}
 use Rattle.lsh.proofs.Figures.{block-some}
 use Rattle.checkpoints.specs.Roll.{checkpoints}
 use Rattle.roll.proofs.checkpoints.Goals as goal

@@ -1,14 +1,12 @@
 use mathlib.Core.Path.{◌≡◌, sym, ap, ◌∙◌}
 use mathlib.Core.Bool.{true, false}
 use mathlib.Core.List.{List}
-use Prim.Native.Nat.{ℕ, suc, ◌+◌, ◌-◌, ◌≤◌, ◌<◌}
+use Prim.Native.Nat.{ℕ, suc, ◌+◌, ◌-◌}
 use native.Mathlib.Numerals.{add-one}
 use native.Mathlib.Omega.{arith}
 use Rattle.lsh.specs.Tabulate.{at}
-use Rattle.checkpoints.specs.Slots.{most_slots}
 use Rattle.checkpoints.specs.Members.{member}
 use Rattle.checkpoints.specs.FreeSlot.{first_free, free_slot}
-use Rattle.roll.specs.Traversal.{marked}
 use Rattle.roll.proofs.Walked.{unmarked, marked-is}
 use Rattle.roll.proofs.free_slot.Goals as goal
 

@@ -2,7 +2,6 @@
 use mathlib.Core.Path.{◌≡◌}
 use Prim.Native.Nat.{ℕ, zero, suc, ◌+◌, ◌-◌, ◌*◌, ◌≤◌}
 use native.Mathlib.Omega.{arith}
-use borrow.Author.Rules.{rules}
 use Rattle.lsh.specs.WordSize.{WordSize, size_of}
 use Rattle.checkpoints.specs.Slots.{index_bytes, most_slots, slot_bytes, roll_bytes, index_place}
 use Rattle.roll.proofs.Sizes.{slots-most}

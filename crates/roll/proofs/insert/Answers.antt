@@ -5,7 +5,6 @@ use Prim.Native.Nat.{ℕ, ◌≤◌, ◌<◌}
 use native.Mathlib.Nat.{le_refl}
 use native.Mathlib.Omega.{arith}
 use lib.ListN.{length}
-use borrow.Author.Rules.{rules}
 use Rattle.lsh.specs.WordSize.{WordSize, size_of}
 use Rattle.lsh.proofs.Bytes.{Octets, octets}
 use Rattle.roll.specs.declared.Traversal.{Traversal}

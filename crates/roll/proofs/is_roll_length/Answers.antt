@@ -1,7 +1,6 @@
 -- `roll::is_roll_length` visits its contract. Assumes nothing.
 use Prim.Native.Nat.{◌*◌, ◌≤◌}
 use native.Mathlib.Omega.{arith}
-use borrow.Author.Rules.{rules}
 use borrow.Author.Tests.{le-leb, lt-leb}
 use Rattle.checkpoints.specs.Slots.{most_slots, roll_bytes, is_roll_length}
 use Rattle.roll.proofs.Sizes.{slots-most}

@@ -1,7 +1,6 @@
 -- `roll::is_roll_of` visits its contract: a walk that is none has no form. Assumes nothing.
 use mathlib.Core.Path.{◌≡◌, sym, ◌∙◌}
 use mathlib.Core.Bool.{true}
-use borrow.Author.Rules.{rules}
 use borrow.Author.Tests.{not-true, not-false}
 use Rattle.lsh.specs.WordSize.{size_of}
 use Rattle.checkpoints.specs.Roll.{is_roll, checkpoints, is_roll_of}

@@ -1,5 +1,4 @@
 -- `roll::not_a_roll` visits its contract. Assumes nothing.
-use borrow.Author.Rules.{rules}
 use Rattle.roll.specs.Traversal.{not_a_roll}
 use Rattle.roll.proofs.not_a_roll.Goals as goal
 

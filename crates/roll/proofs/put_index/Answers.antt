@@ -5,7 +5,6 @@ use native.Mathlib.Nat.{div-one}
 use native.Mathlib.Numerals.{add-one}
 use native.Mathlib.Omega.{arith}
 use lib.ListN.{length, length-set}
-use borrow.Author.Rules.{rules}
 use Rattle.lsh.specs.Tabulate.{tabulate_from, tabulate}
 use Rattle.lsh.specs.WordSize.{size_of}
 use Rattle.lsh.specs.Bytes.{byte_at}

@@ -5,7 +5,6 @@ use Prim.Native.Nat.{ℕ, ◌+◌, ◌-◌, ◌≤◌}
 use native.Mathlib.Omega.{arith}
 use lib.ListN.{length, take, drop}
 use lib.Seq.{drop-drop, sets, sets-eq}
-use borrow.Author.Rules.{rules}
 use Rattle.lsh.specs.WordSize.{size_of, chain_bytes}
 use Rattle.lsh.specs.Bytes.{bytes_of}
 use Rattle.lsh.proofs.Bytes.{octets, length-chain}

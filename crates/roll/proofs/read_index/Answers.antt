@@ -1,5 +1,4 @@
 -- `roll::read_index` visits its contract. Assumes nothing.
-use borrow.Author.Rules.{rules}
 use Rattle.loops.proofs.Words.{word-last, word_more}
 use Rattle.roll.proofs.read_index.Goals as goal
 

@@ -2,7 +2,6 @@
 use mathlib.Core.Path.{ap}
 use Prim.Native.Nat.{ℕ, ◌+◌}
 use native.Mathlib.Omega.{arith}
-use borrow.Author.Rules.{rules}
 use Rattle.checkpoints.specs.Slots.{index_bytes, slot_bytes}
 use Rattle.roll.proofs.Sizes.{slot-most}
 use Rattle.roll.proofs.slot_bytes.Goals as goal

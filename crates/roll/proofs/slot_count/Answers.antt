@@ -3,7 +3,6 @@ use mathlib.Core.Path.{◌≡◌, sym, ap, ◌∙◌}
 use Prim.Native.Nat.{ℕ, ◌-◌, ◌/◌}
 use native.Mathlib.Nat.{zero-div}
 use native.Mathlib.Omega.{arith}
-use borrow.Author.Rules.{rules}
 use Rattle.lsh.specs.WordSize.{size_of}
 use Rattle.checkpoints.specs.Slots.{index_bytes, slot_bytes, slot_count}
 use Rattle.roll.proofs.Sizes.{slot-some}

@@ -1,7 +1,5 @@
 -- `roll::turn` visits its contract. Assumes nothing.
 use mathlib.Core.Path.{refl, sym, ◌∙◌}
-use borrow.Author.Rules.{rules}
-use borrow.Author.Tests.{not-true, not-false}
 use Rattle.orders.proofs.InTurn.{turn-passed}
 use Rattle.answers.proofs.First.{refused-first, passed_first}
 use Rattle.checkpoints.specs.Roll.{roll_answer}

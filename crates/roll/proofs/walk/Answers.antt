@@ -1,8 +1,6 @@
 -- `roll::walk` visits its contract. Assumes nothing.
 use mathlib.Core.Path.{sym, ◌∙◌}
 use mathlib.Core.Bool.{false≢true}
-use borrow.Author.Rules.{rules}
-use borrow.Author.Tests.{not-true, not-false}
 use Rattle.roll.proofs.Walked.{not-roll}
 use Rattle.roll.proofs.walk.Goals as goal
 

@@ -5,7 +5,7 @@ use lib.ListN.{length}
 use Rattle.lsh.specs.WordSize.{size_of}
 use Rattle.checkpoints.specs.Slots.{slot_count}
 use Rattle.checkpoints.proofs.Form.{Sized, sized}
-use Rattle.roll.proofs.Walked.{Walked, walked_none, walked-beyond, walked-twice, walked-few, walked_more, walked_all}
+use Rattle.roll.proofs.Walked.{walked_none, walked-beyond, walked-twice, walked-few, walked_more, walked_all}
 use Rattle.roll.proofs.walk_links.Goals as goal
 use Rattle.roll.proofs.walk_links.Goals.{At-loop-i, Else-marks-i-ne0, Start}
 

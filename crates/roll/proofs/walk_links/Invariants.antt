@@ -1,12 +1,7 @@
 -- `roll::walk_links` visits its contract. Assumes nothing.
-use mathlib.Core.Path.{◌∙◌}
-use Prim.Native.Nat.{◌-◌, ◌≤◌, ◌<◌, zero-le}
-use native.Mathlib.Omega.{arith}
-use lib.ListN.{length}
+use Prim.Native.Nat.{◌-◌}
 use Rattle.lsh.specs.WordSize.{size_of}
-use Rattle.checkpoints.specs.Slots.{slot_count}
-use Rattle.checkpoints.proofs.Form.{Sized, sized}
-use Rattle.roll.proofs.Walked.{Walked, walked_none, walked-beyond, walked-twice, walked-few, walked_more, walked_all}
+use Rattle.roll.proofs.Walked.{Walked}
 use Rattle.roll.proofs.walk_links.Given as goal
 
 abbrev pub invariant-loop-i : goal.invariant-loop-i

@@ -2,7 +2,6 @@
 use mathlib.Core.Path.{refl, ◌∙◌, subst}
 use Prim.Native.Nat.{◌<◌, ◌^◌}
 use native.Mathlib.Omega.{arith}
-use borrow.Author.Rules.{rules}
 use Rattle.lsh.specs.Tabulate.{at}
 use Rattle.lsh.specs.WordSize.{WordSize, lsh256}
 use Rattle.lsh.specs.Block.{backwards}

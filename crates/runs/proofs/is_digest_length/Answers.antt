@@ -1,5 +1,4 @@
 use mathlib.Core.Path.{ap, ◌∙◌}
-use borrow.Author.Rules.{rules}
 use borrow.Author.Tests.{ne_eqb}
 use Rattle.lsh.proofs.Figures.{bits_are}
 use Rattle.limits.specs.Limits.{longest_digest, is_digest_length}

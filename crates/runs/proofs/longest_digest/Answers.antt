@@ -1,5 +1,4 @@
 use native.Mathlib.Omega.{arith}
-use borrow.Author.Rules.{rules}
 use Rattle.lsh.specs.WordSize.{block_bytes}
 use Rattle.limits.proofs.Limits.{block-most}
 use Rattle.runs.proofs.longest_digest.Goals as goal

@@ -1,9 +1,6 @@
-use mathlib.Core.Path.{refl, ◌∙◌}
 use Prim.Native.Nat.{◌-◌}
-use native.Mathlib.Omega.{arith}
 use Rattle.lsh.specs.Tabulate.{at}
-use Rattle.lsh.proofs.Tabulate.{tabulate-ext}
-use Rattle.loops.proofs.Places.{Placed, placed-none, filled_more, filled-all}
+use Rattle.loops.proofs.Places.{Placed}
 use Rattle.runs.proofs.narrow.Given as goal
 
 abbrev pub invariant-loop-l : goal.invariant-loop-l

@@ -1,6 +1,5 @@
 use mathlib.Core.Path.{ap₂, ◌∙◌}
 use Prim.Native.Nat.{ℕ}
-use borrow.Author.Rules.{rules}
 use Rattle.lsh.specs.WordSize.{size_of}
 use Rattle.lsh.specs.Opening.{opening}
 use Rattle.runs.proofs.opening.Goals as goal

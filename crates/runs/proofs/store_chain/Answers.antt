@@ -1,7 +1,6 @@
 -- `runs::store_chain` meets its contract, by the word size. Assumes nothing.
 use mathlib.Core.Path.{sym, ap, ap₂, ◌∙◌, subst}
 use Prim.Native.Nat.{◌<◌, ◌^◌}
-use borrow.Author.Rules.{rules}
 use Rattle.lsh.specs.Tabulate.{at}
 use Rattle.lsh.specs.WordSize.{WordSize, lsh256, chain_bytes}
 use Rattle.lsh.specs.Bytes.{bytes_of}

@@ -1,10 +1,8 @@
 use mathlib.Core.Path.{refl, ◌∙◌}
 use Prim.Native.Nat.{◌-◌}
 use native.Mathlib.Omega.{arith}
-use borrow.Author.Rules.{rules}
-use Rattle.lsh.specs.Tabulate.{at}
 use Rattle.lsh.proofs.Tabulate.{tabulate-ext}
-use Rattle.loops.proofs.Places.{Placed, placed-none, filled_more, filled-all}
+use Rattle.loops.proofs.Places.{placed-none, filled_more, filled-all}
 use Rattle.runs.proofs.widen.Goals as goal
 
 pub loop-l-init : goal.loop-l-init

@@ -3,7 +3,6 @@ use mathlib.Core.List.{List}
 use Prim.Native.Nat.{ℕ}
 use lib.ListN.{length}
 use lib.Seq.{paste}
-use borrow.Author.Rules.{rules}
 use Rattle.lists.proofs.Lists.{into-zeros}
 use Rattle.limits.specs.Limits.{longest_block}
 use Rattle.runs.proofs.zero_filled.Goals as goal

@@ -1,8 +1,8 @@
 use mathlib.Core.Path.{refl, sym, ◌∙◌}
-use Prim.Native.Nat.{◌-◌, ◌≤◌}
+use Prim.Native.Nat.{◌-◌}
 use native.Mathlib.Omega.{arith}
 use Rattle.receipts.specs.Receipt.{receipt_bytes}
-use Rattle.lists.proofs.Equal.{Tested, tested-more, tested-all}
+use Rattle.lists.proofs.Equal.{tested-more, tested-all}
 use Rattle.receipts.proofs.Agreement.{same-is-equal}
 use Rattle.same.proofs.all_agree.Goals as goal
 

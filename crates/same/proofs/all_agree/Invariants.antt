@@ -1,9 +1,6 @@
-use mathlib.Core.Path.{refl, sym, ◌∙◌}
 use Prim.Native.Nat.{◌-◌, ◌≤◌}
-use native.Mathlib.Omega.{arith}
 use Rattle.receipts.specs.Receipt.{receipt_bytes}
-use Rattle.lists.proofs.Equal.{Tested, tested-more, tested-all}
-use Rattle.receipts.proofs.Agreement.{same-is-equal}
+use Rattle.lists.proofs.Equal.{Tested}
 use Rattle.same.proofs.all_agree.Given as goal
 
 abbrev pub invariant-loop-i : goal.invariant-loop-i

@@ -1,7 +1,6 @@
 use mathlib.Core.Path.{sym}
 use native.Mathlib.Omega.{arith}
 use lib.Seq.{length-take-le}
-use borrow.Author.Rules.{rules}
 use Rattle.receipts.specs.Receipt.{receipt_bytes, length_place}
 use Rattle.receipts.specs.WellFormed.{zero_after}
 use Rattle.same.proofs.is_zero_after.Goals as goal

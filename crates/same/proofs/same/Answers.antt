@@ -1,6 +1,6 @@
 use mathlib.Core.Path.{◌≡◌, sym, ◌∙◌}
 use mathlib.Core.Bool.{true}
-use borrow.Author.Tests.{not-true, not-false, eq-eqb, ne_eqb}
+use borrow.Author.Tests.{eq-eqb, ne_eqb}
 use Rattle.receipts.specs.Receipt.{receipt_bytes}
 use Rattle.receipts.specs.WellFormed.{well_formed}
 use Rattle.receipts.specs.Same.{is_receipt_long, same_call}

@@ -1,11 +1,8 @@
 -- `script::after_spaces` meets its contract: before turn i some of the k spaces are still to come. Assumes nothing.
-use mathlib.Core.Path.{◌≡◌, refl}
-use mathlib.Core.Logic.{⊎_elim}
-use Prim.Native.Nat.{◌-◌, ◌≤◌, zero-le}
-use native.Mathlib.Omega.{arith}
+use mathlib.Core.Path.{◌≡◌}
+use Prim.Native.Nat.{◌-◌, ◌≤◌}
 use lib.ListN.{length, drop}
 use Rattle.script.specs.Words.{after_spaces}
-use Rattle.script.proofs.Lines.{after-here, after_one, after-no, after-all}
 use Rattle.script.proofs.after_spaces.Given as goal
 
 abbrev pub invariant-loop-i : goal.invariant-loop-i

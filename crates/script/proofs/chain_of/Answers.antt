@@ -1,8 +1,7 @@
 use mathlib.Core.Path.{refl}
-use Prim.Native.Nat.{◌-◌, ◌*◌}
+use Prim.Native.Nat.{◌-◌}
 use native.Mathlib.Omega.{arith}
-use Rattle.loops.proofs.Places.{Placed, placed-none, filled_more, filled-all}
-use Rattle.script.specs.Numbers.{highest_first}
+use Rattle.loops.proofs.Places.{placed-none, filled_more, filled-all}
 use Rattle.script.proofs.chain_of.Goals as goal
 
 pub loop-l-init : goal.loop-l-init

@@ -1,8 +1,6 @@
 -- `script::chain_of` meets its contract: before turn l the first l words are stored. Assumes nothing.
-use mathlib.Core.Path.{refl}
 use Prim.Native.Nat.{◌-◌, ◌*◌}
-use native.Mathlib.Omega.{arith}
-use Rattle.loops.proofs.Places.{Placed, placed-none, filled_more, filled-all}
+use Rattle.loops.proofs.Places.{Placed}
 use Rattle.script.specs.Numbers.{highest_first}
 use Rattle.script.proofs.chain_of.Given as goal
 

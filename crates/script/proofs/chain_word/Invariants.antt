@@ -1,10 +1,7 @@
 -- `script::chain_word` meets its contract: before turn i the first i bytes are put together. Assumes nothing.
-use mathlib.Core.Path.{◌≡◌, ap, ◌∙◌}
-use Prim.Native.Nat.{ℕ, ◌-◌, ◌*◌, ◌^◌, ◌≤◌, ◌<◌}
-use native.Mathlib.Omega.{arith}
-use borrow.Author.Rules.{rules}
+use mathlib.Core.Path.{◌≡◌}
+use Prim.Native.Nat.{◌-◌, ◌*◌, ◌^◌, ◌≤◌, ◌<◌}
 use Rattle.script.specs.Numbers.{highest_first}
-use Rattle.script.proofs.Chains.{highest-none, highest-lt, highest-fits, highest-more}
 use Rattle.script.proofs.chain_word.Given as goal
 
 abbrev pub invariant-loop-i : goal.invariant-loop-i

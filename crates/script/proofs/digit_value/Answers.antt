@@ -1,6 +1,5 @@
 use mathlib.Core.Path.{refl}
 use native.Mathlib.Omega.{arith}
-use borrow.Author.Rules.{rules}
 use Rattle.hexadecimal.proofs.Digits.{digit_low, digit-high}
 use Rattle.script.proofs.digit_value.Goals as goal
 

@@ -1,8 +1,6 @@
-use Prim.Native.Nat.{◌+◌, ◌-◌, ◌≤◌, zero-le}
+use Prim.Native.Nat.{◌-◌, zero-le}
 use native.Mathlib.Omega.{arith}
-use borrow.Author.Rules.{rules}
-use lib.ListN.{length}
-use Rattle.script.proofs.Places.{Sought, sought-none, found_here, sought-more, sought-all}
+use Rattle.script.proofs.Places.{sought-none, found_here, sought-more, sought-all}
 use Rattle.script.proofs.place.Goals as goal
 
 pub loop-from-init : goal.loop-from-init

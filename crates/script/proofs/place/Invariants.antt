@@ -1,9 +1,7 @@
 -- `script::place` meets its contract: before each turn the words passed are others. Assumes nothing.
-use Prim.Native.Nat.{◌+◌, ◌-◌, ◌≤◌, zero-le}
-use native.Mathlib.Omega.{arith}
-use borrow.Author.Rules.{rules}
+use Prim.Native.Nat.{◌+◌, ◌-◌, ◌≤◌}
 use lib.ListN.{length}
-use Rattle.script.proofs.Places.{Sought, sought-none, found_here, sought-more, sought-all}
+use Rattle.script.proofs.Places.{Sought}
 use Rattle.script.proofs.place.Given as goal
 
 abbrev pub invariant-loop-from : goal.invariant-loop-from

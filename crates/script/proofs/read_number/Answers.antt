@@ -1,11 +1,7 @@
-use mathlib.Core.Path.{◌≡◌, sym, ◌∙◌}
-use Prim.Native.Nat.{◌-◌, ◌^◌, ◌≤◌, ◌<◌, zero-le}
+use mathlib.Core.Path.{sym, ◌∙◌}
+use Prim.Native.Nat.{◌-◌, zero-le}
 use native.Mathlib.Omega.{arith}
-use lib.ListN.{length, drop}
-use borrow.Author.Rules.{rules}
-use borrow.Author.Tests.{not-true, not-false}
-use Rattle.script.specs.Numbers.{word_number}
-use Rattle.script.proofs.Reading.{number_after, number-empty, number-some, number-other, number_more, number-large, number-all}
+use Rattle.script.proofs.Reading.{number-empty, number-some, number-other, number_more, number-large, number-all}
 use Rattle.script.proofs.read_number.Goals as goal
 
 pub returns-then-word-eq0 : goal.returns-then-word-eq0

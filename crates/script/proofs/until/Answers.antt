@@ -1,8 +1,5 @@
-use mathlib.Core.Path.{◌≡◌}
-use Prim.Native.Nat.{◌+◌, ◌-◌, ◌≤◌, zero-le}
+use Prim.Native.Nat.{◌-◌, zero-le}
 use native.Mathlib.Omega.{arith}
-use lib.ListN.{length, drop}
-use Rattle.script.specs.Words.{before}
 use Rattle.script.proofs.Lines.{before-none, before_here, before_more, before-all}
 use Rattle.script.proofs.until.Goals as goal
 

@@ -1,10 +1,8 @@
 -- `script::until` meets its contract: before turn i no byte passed is the mark. Assumes nothing.
 use mathlib.Core.Path.{◌≡◌}
-use Prim.Native.Nat.{◌+◌, ◌-◌, ◌≤◌, zero-le}
-use native.Mathlib.Omega.{arith}
+use Prim.Native.Nat.{◌+◌, ◌-◌, ◌≤◌}
 use lib.ListN.{length, drop}
 use Rattle.script.specs.Words.{before}
-use Rattle.script.proofs.Lines.{before-none, before_here, before_more, before-all}
 use Rattle.script.proofs.until.Given as goal
 
 abbrev pub invariant-loop-i : goal.invariant-loop-i

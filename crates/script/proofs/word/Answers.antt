@@ -3,7 +3,6 @@ use Prim.Native.Nat.{ℕ, ◌-◌}
 use native.Mathlib.Nat.{le_of_eq}
 use lib.ListN.{length, take, drop, length-drop}
 use lib.Seq.{take_all, length-take-le}
-use borrow.Author.Rules.{rules}
 use Rattle.script.specs.Words.{before, word_at}
 use Rattle.script.proofs.Lines.{take-before}
 use Rattle.script.proofs.word.Goals as goal

@@ -1,6 +1,5 @@
 use mathlib.Core.Path.{◌≡◌, sym, ap, ◌∙◌}
 use mathlib.Core.Bool.{true, false, not}
-use borrow.Author.Rules.{rules}
 use Rattle.orders.specs.Record.{sound, is_begun, stepped}
 use Rattle.orders.proofs.InTurn.{turn-refused, turn-passed, in-turn}
 use Rattle.orders.specs.Abandon.{abandon_call}

@@ -3,7 +3,6 @@ use mathlib.Core.Bool.{true, false}
 use native.Mathlib.Omega.{arith}
 use lib.Dec.{eqb}
 use lib.ListN.{length}
-use borrow.Author.Rules.{rules}
 use borrow.Author.Tests.{eq-eqb, ne_eqb}
 use Rattle.orders.specs.Record.{held_of, held_length, sound, is_begun}
 use Rattle.orders.proofs.InTurn.{turn-refused, turn-passed, in-turn}

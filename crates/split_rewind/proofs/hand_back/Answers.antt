@@ -1,6 +1,5 @@
 use mathlib.Core.Path.{◌≡◌, sym, ap, ◌∙◌}
 use mathlib.Core.Bool.{true, false, not}
-use borrow.Author.Rules.{rules}
 use borrow.Author.Tests.{not-false}
 use Rattle.orders.specs.Record.{sound, is_begun}
 use Rattle.orders.proofs.InTurn.{turn-refused, turn-passed, in-turn}

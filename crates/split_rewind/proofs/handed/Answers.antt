@@ -1,6 +1,5 @@
 use Prim.Native.Nat.{◌≤◌}
 use native.Mathlib.Omega.{arith}
-use borrow.Author.Rules.{rules}
 use Rattle.limits.specs.Limits.{limit}
 use Rattle.orders.proofs.Sound.{sounds}
 use Rattle.orders.specs.End.{handed}

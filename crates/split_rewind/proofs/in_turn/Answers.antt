@@ -1,5 +1,4 @@
 use mathlib.Core.Path.{◌≡◌, sym, ap, ◌∙◌}
-use borrow.Author.Rules.{rules}
 use Rattle.lsh.specs.WordSize.{size_of, block_bytes}
 use Rattle.orders.specs.Rewind.{keeps_too_much}
 use Rattle.orders.specs.End.{handed, end_cut, end_in_turn}

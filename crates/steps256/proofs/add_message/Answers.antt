@@ -1,12 +1,8 @@
 use mathlib.Core.Path.{refl}
-use Prim.Native.Nat.{◌-◌}
 use native.Mathlib.Omega.{arith}
-use borrow.Author.Rules.{rules}
-use Rattle.lsh.specs.Tabulate.{at}
-use Rattle.lsh.specs.Word.{xor}
 use Rattle.lsh.specs.WordSize.{lsh256}
 use Rattle.lsh.specs.Step.{add_message}
-use Rattle.loops.proofs.Places.{Placed, placed-none, filled_more, filled-all}
+use Rattle.loops.proofs.Places.{placed-none, filled_more, filled-all}
 use Rattle.steps256.proofs.add_message.Goals as goal
 
 pub loop-l-init : goal.loop-l-init

@@ -1,10 +1,7 @@
-use mathlib.Core.Path.{refl}
 use Prim.Native.Nat.{◌-◌}
-use native.Mathlib.Omega.{arith}
-use Rattle.lsh.specs.WordSize.{lsh256, alpha, beta, gamma}
-use Rattle.lsh.specs.Step.{mix, mixed_lane}
-use Rattle.lsh.proofs.Figures.{amounts256}
-use Rattle.loops.proofs.Lanes.{Laned, laned-none, laned-more, laned-all, mixed-is}
+use Rattle.lsh.specs.WordSize.{lsh256}
+use Rattle.lsh.specs.Step.{mixed_lane}
+use Rattle.loops.proofs.Lanes.{Laned}
 use Rattle.steps256.proofs.mix.Given as goal
 
 abbrev pub invariant-loop-l : goal.invariant-loop-l

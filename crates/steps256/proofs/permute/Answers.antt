@@ -1,11 +1,9 @@
 use mathlib.Core.Path.{refl}
-use Prim.Native.Nat.{◌-◌}
 use native.Mathlib.Omega.{arith}
-use Rattle.lsh.specs.Tabulate.{at}
 use Rattle.lsh.specs.WordSize.{sigma}
 use Rattle.lsh.specs.Step.{permute}
 use Rattle.lsh.proofs.Permutation.{sigma-permutes}
-use Rattle.loops.proofs.Places.{Placed, placed-none, filled_more, filled-all}
+use Rattle.loops.proofs.Places.{placed-none, filled_more, filled-all}
 use Rattle.steps256.proofs.permute.Goals as goal
 
 pub loop-l-init : goal.loop-l-init

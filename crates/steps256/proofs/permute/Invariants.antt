@@ -1,11 +1,7 @@
-use mathlib.Core.Path.{refl}
 use Prim.Native.Nat.{◌-◌}
-use native.Mathlib.Omega.{arith}
 use Rattle.lsh.specs.Tabulate.{at}
 use Rattle.lsh.specs.WordSize.{sigma}
-use Rattle.lsh.specs.Step.{permute}
-use Rattle.lsh.proofs.Permutation.{sigma-permutes}
-use Rattle.loops.proofs.Places.{Placed, placed-none, filled_more, filled-all}
+use Rattle.loops.proofs.Places.{Placed}
 use Rattle.steps256.proofs.permute.Given as goal
 
 abbrev pub invariant-loop-l : goal.invariant-loop-l

@@ -1,12 +1,7 @@
-use mathlib.Core.Path.{refl}
 use Prim.Native.Nat.{◌-◌}
-use native.Mathlib.Omega.{arith}
-use borrow.Author.Rules.{rules}
 use Rattle.lsh.specs.Tabulate.{at}
 use Rattle.lsh.specs.Word.{xor}
-use Rattle.lsh.specs.WordSize.{lsh512}
-use Rattle.lsh.specs.Step.{add_message}
-use Rattle.loops.proofs.Places.{Placed, placed-none, filled_more, filled-all}
+use Rattle.loops.proofs.Places.{Placed}
 use Rattle.steps512.proofs.add_message.Given as goal
 
 abbrev pub invariant-loop-l : goal.invariant-loop-l

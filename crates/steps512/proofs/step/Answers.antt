@@ -1,4 +1,3 @@
-use borrow.Author.Rules.{rules}
 use Rattle.lsh.specs.Step.{step}
 use Rattle.steps512.proofs.step.Goals as goal
 

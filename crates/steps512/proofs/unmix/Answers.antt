@@ -2,9 +2,9 @@ use mathlib.Core.Path.{refl}
 use Prim.Native.Nat.{◌-◌}
 use native.Mathlib.Omega.{arith}
 use Rattle.lsh.specs.WordSize.{lsh512, alpha, beta, gamma}
-use Rattle.lsh.specs.Step.{unmix, unmixed_lane}
+use Rattle.lsh.specs.Step.{unmix}
 use Rattle.lsh.proofs.Figures.{amounts512}
-use Rattle.loops.proofs.Lanes.{Laned, laned-none, laned-more, laned-all, unmixed-is}
+use Rattle.loops.proofs.Lanes.{laned-none, laned-more, laned-all, unmixed-is}
 use Rattle.steps512.proofs.unmix.Goals as goal
 
 pub loop-l-init : goal.loop-l-init

@@ -1,11 +1,7 @@
-use mathlib.Core.Path.{refl}
 use Prim.Native.Nat.{◌-◌}
-use native.Mathlib.Omega.{arith}
 use Rattle.lsh.specs.Tabulate.{at}
 use Rattle.lsh.specs.WordSize.{sigma}
-use Rattle.lsh.specs.Step.{unpermute}
-use Rattle.lsh.proofs.Permutation.{sigma-permutes}
-use Rattle.loops.proofs.Places.{Placed, placed-none, scattered-more, scattered-all}
+use Rattle.loops.proofs.Places.{Placed}
 use Rattle.steps512.proofs.unpermute.Given as goal
 
 abbrev pub invariant-loop-l : goal.invariant-loop-l

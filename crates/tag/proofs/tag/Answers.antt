@@ -3,7 +3,6 @@ use mathlib.Core.Path.{sym, ◌∙◌}
 use Prim.Native.Nat.{◌≤◌}
 use native.Mathlib.Omega.{arith}
 use lib.ListN.{length}
-use borrow.Author.Rules.{rules}
 use Rattle.limits.proofs.Limits.{digest-longest}
 use Rattle.tags.specs.KeyAnswer.{tag_bytes}
 use Rattle.tags.specs.Tag.{tag_output}

@@ -1,5 +1,4 @@
 use native.Mathlib.Omega.{arith}
-use borrow.Author.Rules.{rules}
 use Rattle.answers.proofs.First.{refused-first, passed_first}
 use Rattle.tags.specs.KeyAnswer.{tag_answer}
 use Rattle.tag_answers.proofs.answer.Goals as goal

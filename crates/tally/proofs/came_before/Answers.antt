@@ -1,10 +1,10 @@
 use mathlib.Core.Path.{◌≡◌, refl, sym, ap₂, ◌∙◌, subst}
-use Prim.Native.Nat.{◌-◌, ◌≤◌}
+use Prim.Native.Nat.{◌-◌}
 use native.Mathlib.Omega.{arith}
 use Rattle.receipts.specs.WellFormed.{IsReceipt}
 use Rattle.receipts.specs.Same.{same_receipt}
 use Rattle.receipts.specs.Tally.{most_receipts, receipt_at}
-use Rattle.receipts.proofs.Places.{Left, found, not_found, none_left}
+use Rattle.receipts.proofs.Places.{found, not_found, none_left}
 use Rattle.tally.proofs.Sums.{sums-differ}
 use Rattle.tally.proofs.came_before.Goals as goal
 use Rattle.tally.proofs.came_before.Goals.{After-all_agree}

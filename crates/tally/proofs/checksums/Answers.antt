@@ -1,9 +1,8 @@
-use mathlib.Core.Path.{◌≡◌, ap, ◌∙◌}
+use mathlib.Core.Path.{ap, ◌∙◌}
 use Prim.Native.Nat.{◌-◌}
 use native.Mathlib.Omega.{arith}
-use lib.ListN.{length}
 use borrow.Author.Rules.{rules}
-use Rattle.loops.proofs.Places.{Placed, placed-none, filled_more}
+use Rattle.loops.proofs.Places.{placed-none, filled_more}
 use Rattle.receipts.specs.Receipt.{receipt_bytes}
 use Rattle.receipts.specs.Tally.{most_receipts, receipt_count, receipt_at}
 use Rattle.tally.specs.Checksum.{checksum}

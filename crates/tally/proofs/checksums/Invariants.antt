@@ -1,10 +1,7 @@
-use mathlib.Core.Path.{◌≡◌, ap, ◌∙◌}
+use mathlib.Core.Path.{◌≡◌}
 use Prim.Native.Nat.{◌-◌}
-use native.Mathlib.Omega.{arith}
 use lib.ListN.{length}
-use borrow.Author.Rules.{rules}
-use Rattle.loops.proofs.Places.{Placed, placed-none, filled_more}
-use Rattle.receipts.specs.Receipt.{receipt_bytes}
+use Rattle.loops.proofs.Places.{Placed}
 use Rattle.receipts.specs.Tally.{most_receipts, receipt_count, receipt_at}
 use Rattle.tally.specs.Checksum.{checksum}
 use Rattle.tally.proofs.checksums.Given as goal

@@ -1,12 +1,12 @@
 use mathlib.Core.Path.{refl, sym, ap, ◌∙◌}
-use Prim.Native.Nat.{◌-◌, ◌≤◌, zero-le}
+use Prim.Native.Nat.{◌-◌, zero-le}
 use native.Mathlib.Omega.{arith}
 use lib.ListN.{length}
 use Rattle.receipts.specs.Receipt.{receipt_bytes}
 use Rattle.receipts.specs.Kinds.{is_blank}
 use Rattle.receipts.specs.Tally.{most_receipts, receipt_count, counted}
 use Rattle.receipts.proofs.Places.{receipt-length}
-use Rattle.receipts.proofs.Counting.{Counted, counted_none, together, one_more, all_done}
+use Rattle.receipts.proofs.Counting.{counted_none, together, one_more, all_done}
 use Rattle.tally.proofs.count.Goals as goal
 use Rattle.tally.proofs.count.Goals.{then-is_blank, else-is_blank+then-came_before, else-is_blank+else-came_before}
 

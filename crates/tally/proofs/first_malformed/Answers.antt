@@ -1,13 +1,11 @@
 use mathlib.Core.Path.{sym, ap, ◌∙◌}
 use Prim.Native.Nat.{◌-◌}
-use native.Mathlib.Omega.{arith}
 use lib.ListN.{length}
-use borrow.Author.Tests.{not-true, not-false}
 use Rattle.receipts.specs.Receipt.{receipt_bytes}
 use Rattle.receipts.specs.WellFormed.{well_formed}
 use Rattle.receipts.specs.Tally.{receipt_count}
 use Rattle.receipts.proofs.Places.{receipt-length}
-use Rattle.receipts.proofs.Malformed.{Searched, searched-none, malformed-here, searched-more, searched-all}
+use Rattle.receipts.proofs.Malformed.{searched-none, malformed-here, searched-more, searched-all}
 use Rattle.tally.proofs.first_malformed.Goals as goal
 
 pub loop-i-init : goal.loop-i-init

@@ -1,6 +1,5 @@
 use mathlib.Core.Path.{ap}
 use Prim.Native.Nat.{ℕ}
-use borrow.Author.Rules.{rules}
 use lib.Dec.{eqb}
 use Rattle.receipts.specs.Kinds.{is_blank}
 use Rattle.tally.proofs.is_blank.Goals as goal

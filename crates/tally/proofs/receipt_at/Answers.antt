@@ -1,5 +1,4 @@
 use native.Mathlib.Omega.{arith}
-use borrow.Author.Rules.{rules}
 use Rattle.receipts.specs.Receipt.{receipt_bytes}
 use Rattle.receipts.specs.Tally.{receipt_count}
 use Rattle.receipts.proofs.Places.{part-is}

@@ -1,8 +1,8 @@
-use mathlib.Core.Path.{◌≡◌, refl, sym, ◌∙◌}
-use Prim.Native.Nat.{◌-◌, ◌<◌}
+use mathlib.Core.Path.{refl, sym, ◌∙◌}
+use Prim.Native.Nat.{◌-◌}
 use native.Mathlib.Omega.{arith}
-use lib.ListN.{length, drop, drop_of_length-le}
-use Rattle.tally.specs.Checksum.{checksum_bound, checksum, checksum_after}
+use lib.ListN.{drop_of_length-le}
+use Rattle.tally.specs.Checksum.{checksum, checksum_after}
 use Rattle.tally.proofs.Sums.{checksum-at}
 use Rattle.tally.proofs.sum_of.Goals as goal
 

@@ -1,4 +1,3 @@
-use borrow.Author.Rules.{rules}
 use borrow.Author.Tests.{lt-ltb, le-ltb}
 use Rattle.text.specs.Printed.{hex_digit}
 use Rattle.text.proofs.hex_digit.Goals as goal

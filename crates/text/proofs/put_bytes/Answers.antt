@@ -1,7 +1,6 @@
 use mathlib.Core.Path.{◌≡◌}
 use native.Mathlib.Omega.{arith}
 use lib.ListN.{length}
-use borrow.Author.Rules.{rules}
 use Rattle.text.proofs.Printing.{printed-none, printed-some, length_digits}
 use Rattle.text.proofs.put_bytes.Goals as goal
 

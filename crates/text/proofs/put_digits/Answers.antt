@@ -1,8 +1,7 @@
 use mathlib.Core.Path.{refl}
-use Prim.Native.Nat.{◌+◌, ◌-◌}
 use native.Mathlib.Omega.{arith}
-use Rattle.loops.proofs.Places.{Placed, placed-none, placed-more, stored-all}
-use Rattle.text.specs.Printed.{digit_at, digits_of}
+use Rattle.loops.proofs.Places.{placed-none, placed-more, stored-all}
+use Rattle.text.specs.Printed.{digits_of}
 use Rattle.text.proofs.put_digits.Goals as goal
 
 pub loop-k-init : goal.loop-k-init

@@ -1,9 +1,7 @@
 -- `text::put_digits` meets its contract: before turn k the first k digits are written. Assumes nothing.
-use mathlib.Core.Path.{refl}
 use Prim.Native.Nat.{◌+◌, ◌-◌}
-use native.Mathlib.Omega.{arith}
-use Rattle.loops.proofs.Places.{Placed, placed-none, placed-more, stored-all}
-use Rattle.text.specs.Printed.{digit_at, digits_of}
+use Rattle.loops.proofs.Places.{Placed}
+use Rattle.text.specs.Printed.{digit_at}
 use Rattle.text.proofs.put_digits.Given as goal
 
 abbrev pub invariant-loop-k : goal.invariant-loop-k

@@ -2,7 +2,6 @@
 use mathlib.Core.Path.{sym, ◌∙◌}
 use native.Mathlib.Omega.{arith}
 use lib.ListN.{length}
-use borrow.Author.Rules.{rules}
 use Rattle.limits.specs.Limits.{limit}
 use Rattle.limits.proofs.Limits.{digest-most}
 use Rattle.finalization.proofs.MessageChain.{opened-chain, run-chain}

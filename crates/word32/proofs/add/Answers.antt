@@ -1,4 +1,3 @@
-use Rattle.std.proofs.Common.{rules}
 use Rattle.lsh.specs.Word.{add}
 use Rattle.word32.proofs.add.Goals as goal
 

@@ -1,5 +1,4 @@
 -- `word32::load` meets its contract: the word is put together from its last byte on. Assumes nothing.
-use Rattle.std.proofs.Common.{rules}
 use Rattle.loops.proofs.Words.{word-last, word_more}
 use Rattle.word32.proofs.load.Goals as goal
 

@@ -1,5 +1,5 @@
 -- `word32::store` meets its contract: one store for each byte. Assumes nothing.
-use Rattle.std.proofs.Common.{add-one, arith, length-set, rules}
+use Rattle.std.proofs.Common.{add-one, arith, length-set}
 use Rattle.lsh.specs.Tabulate.{tabulate, tabulate_from}
 use Rattle.word32.proofs.store.Goals as goal
 

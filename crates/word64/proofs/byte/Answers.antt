@@ -1,4 +1,4 @@
-use Rattle.std.proofs.Common.{refl, rules}
+use Rattle.std.proofs.Common.{refl}
 use Rattle.lsh.specs.Bytes.{byte_at}
 use Rattle.word64.proofs.byte.Goals as goal
 
