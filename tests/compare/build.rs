@@ -9,7 +9,7 @@ fn main() {
         None => PathBuf::from(env::var_os("CARGO_MANIFEST_DIR").unwrap()).join("../../target/staticlib"),
     };
     let archive = folder.join("liblsh_kiosk.a");
-    assert!(archive.exists(), "there is no {}: `rt staticlib lsh_kiosk` writes it", archive.display());
+    assert!(archive.exists(), "there is no {}: ./test builds it", archive.display());
     println!("cargo::rerun-if-env-changed=LSH_ARCHIVE_DIR");
     println!("cargo::rerun-if-changed={}", archive.display());
     println!("cargo::rustc-env=LSH_ARCHIVE={}", archive.display()); // for the test that looks into it

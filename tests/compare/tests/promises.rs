@@ -65,17 +65,18 @@ fn quoted() -> Vec<(Quotation, String)> {
 
 /// The words of a line; what follows a dot is a field and no name.
 fn words(line: &str) -> impl Iterator<Item = &str> {
-    let is_word = |word: &&str| !word.is_empty() && !word.starts_with('.');
-    line.split(|c: char| c.is_whitespace() || "(){};,".contains(c)).filter(is_word)
+    let words = line.split(|c: char| c.is_whitespace() || "(){};,".contains(c));
+    words.filter_map(|word| word.split('.').next()).filter(|word| !word.is_empty())
 }
 
 /// The name that a line defines, as "abbrev pub NAME : TYPE" and "pub record NAME (..) : TYPE where" do.
 fn defined(line: &str) -> Option<&str> {
+    let is_record = line.split_whitespace().any(|word| word == "record");
     let mut words =
         line.split_whitespace().skip_while(|word| ["abbrev", "unfoldable", "pub", "record", "data"].contains(word));
     let name = words.next()?;
     let next = words.next()?;
-    (next == ":" || next.starts_with('(') && line.contains("record ")).then_some(name)
+    (next == ":" || next.starts_with('(') && is_record).then_some(name)
 }
 
 /// The names that a line binds, as "(a b : TYPE)" does, and the fields that it gives, as "{ a = VALUE; b = VALUE }" does.
@@ -86,7 +87,9 @@ fn bound(line: &str) -> impl Iterator<Item = &str> {
 
 /// The names that a file of proofs/ defines itself or takes from another such file.
 fn names_of_proofs(text: &str) -> BTreeSet<&str> {
-    let is_import = |line: &&str| line.starts_with("use Rattle·") && line.contains("proofs.");
+    let is_import = |line: &&str| {
+        line.starts_with("use Rattle.") && line.contains(".proofs.") && !line.starts_with("use Rattle.std.")
+    };
     let imports = text.lines().filter(is_import).filter_map(|line| line.split_once(".{"));
     let imported = imports.flat_map(|(_, names)| names.trim_end_matches('}').split(", "));
     imported.chain(text.lines().filter_map(defined)).collect()
@@ -180,11 +183,11 @@ fn a_changed_quotation_is_found() {
 
 #[test]
 fn a_name_of_proofs_is_found() {
-    let text = "use Rattle·a.specs.A.{inSpecs}\nuse Rattle·a·proofs.proofs.B.{Other, Imported}\n  abbrev R : Record\n  R = r\n  pub law : P R";
+    let text = "use Rattle.a.specs.A.{in_specs}\nuse Rattle.a.proofs.B.{Other, Imported}\n  abbrev R : Record\n  R = r\n  pub law : P R";
     let hidden =
         |lines: &[&str]| hidden_names(&quotation(lines), text).into_iter().map(str::to_string).collect::<Vec<_>>();
-    assert_eq!(hidden(&["pub law : inSpecs R"]), ["R"]);
-    assert_eq!(hidden(&["pub law : Imported (r .R)"]), ["Imported"]);
-    assert!(hidden(&["abbrev R : Record", "R = r", LEFT_OUT, "pub law : inSpecs R"]).is_empty());
-    assert!(hidden(&["pub law : (Other R : ℕ) → inSpecs R"]).is_empty());
+    assert_eq!(hidden(&["pub law : in_specs R"]), ["R"]);
+    assert_eq!(hidden(&["pub law : Imported (r.R)"]), ["Imported"]);
+    assert!(hidden(&["abbrev R : Record", "R = r", LEFT_OUT, "pub law : in_specs R"]).is_empty());
+    assert!(hidden(&["pub law : (Other R : ℕ) → in_specs R"]).is_empty());
 }
