@@ -1,3 +1,4 @@
+-- `faults::bytes_from_to` is safe and ends. Assumes nothing.
 use Rattle.std.proofs.Common.{length, ◌-◌}
 use Rattle.faults.proofs.bytes_from_to.Given as goal
 

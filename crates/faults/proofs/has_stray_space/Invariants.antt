@@ -1,3 +1,4 @@
+-- `faults::has_stray_space` is safe and ends. Assumes nothing.
 use Rattle.std.proofs.Common.{length, ◌-◌}
 use Rattle.faults.proofs.has_stray_space.Given as goal
 

@@ -1,3 +1,4 @@
+-- `faults::line_of` is safe and ends. Assumes nothing.
 use Rattle.std.proofs.Common.{length, ◌≤◌}
 use Rattle.faults.proofs.line_of.Given as goal
 

@@ -1,3 +1,4 @@
+-- `faults::of_words` is safe and ends. Assumes nothing.
 use Rattle.std.proofs.Common.{length, ◌-◌}
 use Rattle.faults.proofs.of_words.Given as goal
 

@@ -1,3 +1,4 @@
+-- `fingerprint::digest_bytes` meets its contract. Assumes nothing.
 use Rattle.std.proofs.Common.{arith}
 use Rattle.lsh.specs.WordSize.{size_of, lsh512}
 use Rattle.fingerprint.proofs.digest_bytes.Goals as goal

@@ -1,3 +1,4 @@
+-- `replay::line_buffer` meets its contract. The length is not counted out. Assumes nothing.
 use Rattle.std.proofs.Common.{ℕ, sym}
 use Rattle.std.proofs.lemmas.List.{length-replicate}
 use Rattle.replay.specs.Sizes.{room_bytes}

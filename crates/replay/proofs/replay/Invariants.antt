@@ -1,3 +1,4 @@
+-- `replay::replay` is safe and ends. Assumes nothing.
 use Rattle.std.proofs.Common.{length, ◌≤◌, ◌≡◌}
 use Rattle.replay.proofs.replay.Given as goal
 

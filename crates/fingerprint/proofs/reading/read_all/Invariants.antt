@@ -1,3 +1,4 @@
+-- `fingerprint::reading::read_all` is safe and ends. The measure is the number of reads that are left. Assumes nothing.
 use Rattle.std.proofs.Common.{length, ◌≡◌}
 use Rattle.fingerprint.proofs.reading.read_all.Given as goal
 

@@ -1,3 +1,4 @@
+-- `program::names::is_plain` is safe and ends. Assumes nothing.
 use Rattle.std.proofs.Common.{length, ◌-◌}
 use Rattle.program.proofs.names.is_plain.Given as goal
 

@@ -1,3 +1,4 @@
+-- `program::names::put` meets its contract. Assumes nothing.
 use Rattle.std.proofs.Common.{length, ◌-◌, ◌+◌, ◌*◌, ◌≤◌, ◌≡◌}
 use Rattle.program.proofs.names.put.Given as goal
 

@@ -1,3 +1,4 @@
+-- `program::names::read` is safe and ends. Assumes nothing.
 use Rattle.std.proofs.Common.{length, ◌-◌, ◌≤◌, ◌≡◌}
 use Rattle.program.proofs.names.read.Given as goal
 

@@ -1,3 +1,4 @@
+-- `receipt::check::each` is safe and ends. The measure is the number of turns that are left. Assumes nothing.
 use Rattle.std.proofs.Common.{length, ◌≤◌, ◌≡◌}
 use Rattle.receipt.proofs.check.each.Given as goal
 

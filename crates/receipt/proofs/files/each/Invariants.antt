@@ -1,3 +1,4 @@
+-- `receipt::files::each` is safe and ends. Assumes nothing.
 use Rattle.std.proofs.Common.{length, ◌-◌, ◌≡◌}
 use Rattle.receipt.proofs.files.each.Given as goal
 

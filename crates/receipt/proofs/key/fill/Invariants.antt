@@ -1,3 +1,4 @@
+-- `receipt::key::fill` meets its contract and ends. The measure is the number of reads that are left. Assumes nothing.
 use Rattle.std.proofs.Common.{length, ◌≤◌, ◌≡◌}
 use Rattle.receipt.specs.Sizes.{key_room}
 use Rattle.receipt.proofs.key.fill.Given as goal

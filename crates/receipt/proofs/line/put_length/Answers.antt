@@ -1,3 +1,4 @@
+-- `receipt::line::put_length` meets its contract. Assumes nothing.
 use Rattle.std.proofs.Common.{arith}
 use Rattle.receipt.proofs.line.put_length.Goals as goal
 

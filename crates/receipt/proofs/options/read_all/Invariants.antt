@@ -1,3 +1,4 @@
+-- `receipt::options::read_all` is safe and ends. Assumes nothing.
 use Rattle.std.proofs.Common.{◌-◌}
 use Rattle.receipt.proofs.options.read_all.Given as goal
 

@@ -1,3 +1,4 @@
+-- `replay::options::read` is safe and ends. Assumes nothing.
 use Rattle.std.proofs.Common.{◌-◌}
 use Rattle.replay.proofs.options.read.Given as goal
 

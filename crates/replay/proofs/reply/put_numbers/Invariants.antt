@@ -1,3 +1,4 @@
+-- `replay::reply::put_numbers` is safe and ends. Assumes nothing.
 use Rattle.std.proofs.Common.{◌+◌, ◌*◌, ◌≤◌, length, ◌≡◌}
 use Rattle.decimal.specs.Number.{most_digits}
 use Rattle.replay.specs.Sizes.{most_numbers}

@@ -1,3 +1,4 @@
+-- `replay::words::read` is safe and ends. Assumes nothing.
 use Rattle.std.proofs.Common.{length, ◌-◌, ◌≡◌}
 use Rattle.replay.proofs.words.read.Given as goal
 
