@@ -1,5 +1,6 @@
 // Files by name; a dash names standard input.
 use crate::messages;
+use crate::names::NAME;
 use std::fs;
 use std::fs::File;
 use std::io::{Error, Read};
@@ -8,7 +9,10 @@ use std::rt::Stdin;
 // What the system calls an argument that is not right: a name that has a zero byte.
 const INVALID: i32 = 22;
 
-// What the system calls bytes that are no text: std takes names that are UTF-8 alone.
+// What it calls a name that is too long.
+const TOO_LONG: i32 = 36;
+
+// What it calls bytes that are no text: std takes names that are UTF-8 alone.
 const NO_TEXT: i32 = 84;
 
 // What is read from: standard input, or a file that was opened.
@@ -48,6 +52,9 @@ pub fn open(rt: &HostRuntime, program: &[u8], name: &[u8]) -> Option<Source> {
 
 // The file of a name, opened to be read.
 fn open_file(rt: &HostRuntime, name: &[u8]) -> std::io::Result<File> {
+    if NAME <= name.len() {
+        return Err(Error::from_raw_os_error(TOO_LONG));
+    }
     if script::until(name, 0) < name.len() {
         return Err(Error::from_raw_os_error(INVALID));
     }

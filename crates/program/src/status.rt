@@ -50,7 +50,7 @@ fn ask(rt: &HostRuntime, program: &[u8], word: &[u8]) {
 }
 
 fn write_word(rt: &HostRuntime, word: &[u8]) -> std::io::Result<()> {
-    let mut file = OpenOptions::new().write(true).open(rt, WORD)?;
+    let mut file = OpenOptions::new().append(true).open(rt, WORD)?;
     file.write_all(word)
 }
 

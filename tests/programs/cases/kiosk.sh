@@ -82,6 +82,8 @@ for _ in {1..3000}; do printf '%s  abc\n' "$receipt256"; done >"$work/many"
 for words in 'receipt --check many' 'replay many' 'order many many'; do
     expect_of 1 '' '' bash -c "(sleep 0.5; $root/kiosk $words 2>/dev/null; echo \$? >status) | :; exit \$(cat status)"
 done
+# A program in Rattle says nothing of it.
+expect_of 1 '' '' bash -c "(sleep 0.5; $root/kiosk receipt --check many 2>said; echo \$? >status) | :; cat said >&2; exit \$(cat status)"
 
 # What is said on standard error comes in its order with what is printed.
 for _ in {1..10}; do

@@ -18,6 +18,8 @@ expect 0 "$abc256  abc"$'\n'"$abc256  abc"$'\nfirsts 1 reprints 1 blanks 0\n' ''
 expect 1 "$abc256  abc"$'\n' $'receipt: none: No such file or directory\n' --digest none abc
 expect 1 "$abc256  abc"$'\nfirsts 1 reprints 0 blanks 0\n' $'receipt: .: Is a directory\n' --tally --digest . abc
 expect 1 '' $'receipt: not\\nthere\\\\: No such file or directory\n' $'not\nthere\\'
+# A file is opened by a name that is UTF-8.
+expect 1 '' $'receipt: a\xffb: Invalid or incomplete multibyte or wide character\n' $'a\xffb'
 
 # Options anywhere before --, and values behind their options.
 expect 0 "$abc512_256  abc"$'\n' '' abc -w64 --digest -n256
