@@ -1,0 +1,7 @@
+use Rattle.std.proofs.Common.{refl}
+use Rattle.lsh.specs.WordSize.{lsh256}
+use Rattle.word.proofs.U32Word.BETAS.Goals as goal
+
+pub returns : goal.returns
+unfolding lsh256
+returns c = refl

@@ -1,0 +1,7 @@
+use Rattle.std.proofs.Common.{refl}
+use Rattle.lsh.specs.WordSize.{lsh512}
+use Rattle.word.proofs.U64Word.ALPHAS.Goals as goal
+
+pub returns : goal.returns
+unfolding lsh512
+returns c = refl

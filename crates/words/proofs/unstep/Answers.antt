@@ -1,0 +1,6 @@
+use Rattle.lsh.specs.Step.{unstep}
+use Rattle.words.proofs.unstep.Goals as goal
+
+pub returns : goal.returns
+unfolding unstep
+returns g c = rw (c.add_message.ensures, c.unmix.ensures, c.unpermute.ensures)
