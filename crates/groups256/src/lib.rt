@@ -16,19 +16,20 @@ ghost use Rattle.loops.specs.Rows.{expanded_words, row};
 ghost use Rattle.loops.specs.Turns.{SteppedAhead, RunBack};
 ghost use Rattle.mix256.specs.Amounts.{shifts, beta_gamma, remaining, powers};
 
-use lsh256::{Lsh256, Run};
+use word::Word;
+use words::Run;
 
 // Step j, whose constants are c and whose shifts are k, with its sub-message in m (6).
 fn step(c: [u32; 8], pw: &[u64; 32], k: [u32; 4], j: usize, m: &[u32], t: [u32; 16]) -> [u32; 16]
     requires { (c ≡ tabulate 8 (constant lsh256 j)) × (pw.now ≡ powers (beta_gamma lsh256)) × (k ≡ shifts lsh256 j) × (j * 16 + 16 ≤ length m.now) }
     ensures { result ≡ step lsh256 j (row m.now j) t }
 {
-    steps256::permute(mix256::mix(
+    steps::permute(mix256::mix(
         c,
         pw,
         k,
         j,
-        steps256::add_message(t, lsh256::sub_message(m, j)),
+        steps::add_message(t, words::sub_message(m, j)),
     ))
 }
 
@@ -44,7 +45,7 @@ pub fn unstep(
     requires { (c ≡ tabulate 8 (constant lsh256 j)) × (pw.now ≡ powers (remaining lsh256)) × (k ≡ shifts lsh256 j) }
     ensures { result ≡ unstep lsh256 j q t }
 {
-    steps256::add_message(mix256::unmix(c, pw, k, j, steps256::unpermute(t)), q)
+    steps::add_message(mix256::unmix(c, pw, k, j, steps::unpermute(t)), q)
 }
 
 // M_(j + 2), from the two before it (8).
@@ -52,16 +53,30 @@ pub fn expand_row(m: &mut [u32], j: usize)
     requires { (j + 3) * 16 ≤ length m.old }
     ensures { m.new ≡ sets m.old ((j + 2) * 16) (next_sub_message lsh256 (row m.old (j + 1)) (row m.old j)) }
 {
-    let q = lsh256::sub_message(m, j);
-    let p = lsh256::sub_message(m, j + 1);
-    let r = lsh256::next_sub_message(p, q);
-    lsh256::put_sub_message(m, j + 2, r);
+    let q = words::sub_message(m, j);
+    let p = words::sub_message(m, j + 1);
+    let r = words::next_sub_message(p, q);
+    words::put_sub_message(m, j + 2, r);
+}
+
+// Words of the step constants, and of the sub-messages of a block.
+const CONSTANTS: usize = 8 * <u32 as Word>::STEPS;
+
+pub const EXPANDED: usize = 16 * (<u32 as Word>::STEPS + 1);
+
+// The step constants.
+pub fn step_constants() -> [u32; CONSTANTS]
+    ensures { result ≡ constants lsh256 }
+{
+    let mut sc = [0u32; CONSTANTS];
+    constants::write_constants(&mut sc, u32::FIRST_CONSTANTS);
+    sc
 }
 
 // Room for the sub-messages of a block, and for one more: each is worked out two steps before it is wanted, so that the processor does it beside a step, and none of them by
 // a condition, which the compiler would not do on four words at once.
-fn long_room() -> [u32; Lsh256::EXPANDED + 16] {
-    [0u32; Lsh256::EXPANDED + 16]
+fn long_room() -> [u32; EXPANDED + 16] {
+    [0u32; EXPANDED + 16]
 }
 
 // A chain, and how many steps led to it.
@@ -73,7 +88,7 @@ struct Stepped {
 
 // Step j, if it is even. The shifts are then constants to the compiler.
 fn even_step(
-    sc: &[u32; Lsh256::CONSTANTS],
+    sc: &[u32],
     pw: &[u64; 32],
     m: &mut [u32],
     j: usize,
@@ -100,7 +115,7 @@ fn even_step(
 // The steps from j on, below the number of steps, as long as they are odd: one at most. It is a loop since the compiler takes four words together only from one turn of a
 // loop to the next, and not over two steps in one turn.
 fn odd_steps(
-    sc: &[u32; Lsh256::CONSTANTS],
+    sc: &[u32],
     pw: &[u64; 32],
     m: &mut [u32],
     steps: usize,
@@ -127,7 +142,7 @@ fn odd_steps(
 
 // The steps on the chain t, an even one and an odd one a turn, and then M_steps, for the block whose words stand first in m.
 fn all_steps(
-    sc: &[u32; Lsh256::CONSTANTS],
+    sc: &[u32],
     pw: &[u64; 32],
     m: &mut [u32],
     steps: usize,
@@ -145,13 +160,13 @@ fn all_steps(
         r = o.chain;
         j = o.count;
     }
-    steps256::add_message(r, lsh256::sub_message(m, steps))
+    steps::add_message(r, words::sub_message(m, steps))
 }
 
 // The steps taken back from the last, on the chain t from which M_steps is taken already. The shifts come again after two steps, so those of the last step are those of step
 // steps + 1.
 fn all_unsteps(
-    sc: &[u32; Lsh256::CONSTANTS],
+    sc: &[u32],
     pw: &[u64; 32],
     m: &[u32],
     steps: usize,
@@ -162,11 +177,9 @@ fn all_unsteps(
 {
     let mut r = t;
     let mut k = mix256::shifts(steps + 1);
-    let mut j = steps;
-    while 0 < j {
-        j -= 1;
+    for j in (0..steps).rev() {
         let c = mix256::constants(sc, j);
-        let u = unstep(c, pw, k, j, lsh256::sub_message(m, j), r);
+        let u = unstep(c, pw, k, j, words::sub_message(m, j), r);
         r = u;
         let n = mix256::next_shifts(k);
         k = n;
@@ -176,7 +189,7 @@ fn all_unsteps(
 
 // The block s on the chain t, with this number of steps. m is room for the sub-messages.
 fn forward_block(
-    sc: &[u32; Lsh256::CONSTANTS],
+    sc: &[u32],
     pw: &[u64; 32],
     m: &mut [u32],
     steps: usize,
@@ -186,12 +199,12 @@ fn forward_block(
     requires { (sc.now ≡ constants lsh256) × (pw.now ≡ powers (beta_gamma lsh256)) × (length m.old ≡ expanded_words lsh256 + 16) × (steps ≤ lsh256.steps) × (length s.now ≡ block_bytes lsh256) }
     ensures { result ≡ forward_steps lsh256 steps (words_of lsh256 32 s.now) t }
 {
-    lsh256::load_block(m, s);
+    words::load_block(m, s);
     all_steps(sc, pw, m, steps, t)
 }
 
 fn backward_block(
-    sc: &[u32; Lsh256::CONSTANTS],
+    sc: &[u32],
     pw: &[u64; 32],
     m: &mut [u32],
     steps: usize,
@@ -201,57 +214,48 @@ fn backward_block(
     requires { (sc.now ≡ constants lsh256) × (pw.now ≡ powers (remaining lsh256)) × (length m.old ≡ expanded_words lsh256) × (1 ≤ steps) × (steps ≤ lsh256.steps) × (length s.now ≡ block_bytes lsh256) }
     ensures { result ≡ backward_steps lsh256 steps (words_of lsh256 32 s.now) t }
 {
-    lsh256::load_block(m, s);
-    lsh256::expand(m, steps);
-    let r = steps256::add_message(t, lsh256::sub_message(m, steps));
+    words::load_block(m, s);
+    let before = words::sub_message(m, 0);
+    let last = words::sub_message(m, 1);
+    words::expand(m, steps, last, before);
+    let r = steps::add_message(t, words::sub_message(m, steps));
     all_unsteps(sc, pw, m, steps, r)
 }
 
 // Runs the whole blocks of s forward, in order, on the chain t, with this number of steps each.
-pub fn forward(steps: usize, t: [u32; 16], s: &[u8]) -> Run
+pub fn forward(steps: usize, t: [u32; 16], s: &[u8]) -> Run<u32>
     requires { (1 ≤ steps) × (steps ≤ lsh256.steps) }
     ensures { (result.chain ≡ forwards_steps lsh256 steps (blocks_of lsh256 s.now) t) × (result.count ≡ length s.now / block_bytes lsh256) }
 {
-    let sc = constants256::step_constants();
+    let sc = step_constants();
     let pw = mix256::powers();
     let mut m = long_room();
-    let n = s.len() / Lsh256::BLOCK;
+    let n = s.len() / u32::BLOCK;
     let mut c = t;
-    let mut count = 0;
-    while count < n {
-        let a = count * Lsh256::BLOCK;
-        let e = a + Lsh256::BLOCK;
+    for k in 0..n {
+        let a = k * u32::BLOCK;
+        let e = a + u32::BLOCK;
         let next = forward_block(&sc, &pw, &mut m, steps, &s[a..e], c);
         c = next;
-        count += 1;
     }
-    Run {
-        chain: c,
-        count: count,
-    }
+    Run { chain: c, count: n }
 }
 
 // Runs the whole blocks of s backward, from the last, on the chain t.
-pub fn backward(steps: usize, t: [u32; 16], s: &[u8]) -> Run
+pub fn backward(steps: usize, t: [u32; 16], s: &[u8]) -> Run<u32>
     requires { (1 ≤ steps) × (steps ≤ lsh256.steps) }
     ensures { (result.chain ≡ backwards_steps lsh256 steps (blocks_of lsh256 s.now) t) × (result.count ≡ length s.now / block_bytes lsh256) }
 {
-    let sc = constants256::step_constants();
+    let sc = step_constants();
     let pw = mix256::back_powers();
-    let mut m = lsh256::room();
-    let mut left = s.len() / Lsh256::BLOCK;
+    let mut m = [0u32; EXPANDED];
+    let n = s.len() / u32::BLOCK;
     let mut c = t;
-    let mut count = 0;
-    while 0 < left {
-        left -= 1;
-        let a = left * Lsh256::BLOCK;
-        let e = a + Lsh256::BLOCK;
+    for k in (0..n).rev() {
+        let a = k * u32::BLOCK;
+        let e = a + u32::BLOCK;
         let before = backward_block(&sc, &pw, &mut m, steps, &s[a..e], c);
         c = before;
-        count += 1;
     }
-    Run {
-        chain: c,
-        count: count,
-    }
+    Run { chain: c, count: n }
 }

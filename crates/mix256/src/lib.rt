@@ -14,7 +14,7 @@ ghost use Rattle.groups.specs.GroupStep.{pair, groups, in_words, mix_pair, unmix
 ghost use Rattle.loops.specs.Fours.{four};
 ghost use Rattle.mix256.specs.Amounts.{shifts, beta_gamma, remaining, powers};
 
-use constants256::Lsh256;
+use word::Word;
 
 // The groups X and Y of the same lanes.
 #[derive(Clone, Copy)]
@@ -71,10 +71,10 @@ pub fn next_shifts(k: [u32; 4]) -> [u32; 4]
     ensures { (j : ℕ) → k ≡ shifts lsh256 j → result ≡ shifts lsh256 (j + 1) }
 {
     [
-        word32::subtract(34, k[0]),
-        word32::subtract(30, k[1]),
-        word32::subtract(18, k[2]),
-        word32::subtract(46, k[3]),
+        34u32.subtract(k[0]),
+        30u32.subtract(k[1]),
+        18u32.subtract(k[2]),
+        46u32.subtract(k[3]),
     ]
 }
 
@@ -94,10 +94,10 @@ fn xor(a: [u32; 4], b: [u32; 4]) -> [u32; 4]
     ensures { result ≡ wordwise (xor 32) a b }
 {
     [
-        word32::exclusive_or(a[0], b[0]),
-        word32::exclusive_or(a[1], b[1]),
-        word32::exclusive_or(a[2], b[2]),
-        word32::exclusive_or(a[3], b[3]),
+        a[0].exclusive_or(b[0]),
+        a[1].exclusive_or(b[1]),
+        a[2].exclusive_or(b[2]),
+        a[3].exclusive_or(b[3]),
     ]
 }
 
@@ -105,10 +105,10 @@ fn add(a: [u32; 4], b: [u32; 4]) -> [u32; 4]
     ensures { result ≡ wordwise (add 32) a b }
 {
     [
-        word32::add(a[0], b[0]),
-        word32::add(a[1], b[1]),
-        word32::add(a[2], b[2]),
-        word32::add(a[3], b[3]),
+        a[0].add(b[0]),
+        a[1].add(b[1]),
+        a[2].add(b[2]),
+        a[3].add(b[3]),
     ]
 }
 
@@ -116,10 +116,10 @@ fn subtract(a: [u32; 4], b: [u32; 4]) -> [u32; 4]
     ensures { result ≡ wordwise (subtract 32) a b }
 {
     [
-        word32::subtract(a[0], b[0]),
-        word32::subtract(a[1], b[1]),
-        word32::subtract(a[2], b[2]),
-        word32::subtract(a[3], b[3]),
+        a[0].subtract(b[0]),
+        a[1].subtract(b[1]),
+        a[2].subtract(b[2]),
+        a[3].subtract(b[3]),
     ]
 }
 
@@ -155,7 +155,7 @@ fn turn_by_power(x: u32, p: u64) -> u32
     ensures { (k : ℕ) → k < 32 → p ≡ 2 ^ k → result ≡ rotate_left 32 k x }
 {
     let q = wide(x) * (p % 4294967296);
-    word32::add((q % 4294967296) as u32, (q >> 32) as u32)
+    ((q % 4294967296) as u32).add((q >> 32) as u32)
 }
 
 // Each word by the amount of its lane, 4l to 4l + 3, in step j: f of both, if the powers are those of f.
@@ -176,14 +176,14 @@ fn xor_turned(u: u32, c: u32, l: u32, h: u32) -> u32
     requires { (l < 32) × (h < 32) × (l + h ≡ 32) }
     ensures { result ≡ xor 32 (rotate_left 32 l u) c }
 {
-    word32::exclusive_or(word32::exclusive_or(c, u << l), u >> h)
+    c.exclusive_or(u << l).exclusive_or(u >> h)
 }
 
 fn add_turned(x: u32, u: u32, l: u32, h: u32) -> u32
     requires { (l < 32) × (h < 32) × (l + h ≡ 32) }
     ensures { result ≡ add 32 x (rotate_left 32 l u) }
 {
-    word32::add(word32::add(x, u >> h), u << l)
+    x.add(u >> h).add(u << l)
 }
 
 fn xor_turned_each(u: [u32; 4], c: [u32; 4], l: u32, h: u32) -> [u32; 4]
@@ -263,7 +263,7 @@ fn in_words(x0: [u32; 4], x1: [u32; 4], y0: [u32; 4], y1: [u32; 4]) -> [u32; 16]
 }
 
 // The constants of step j.
-pub fn constants(sc: &[u32; Lsh256::CONSTANTS], j: usize) -> [u32; 8]
+pub fn constants(sc: &[u32], j: usize) -> [u32; 8]
     requires { (sc.now ≡ constants lsh256) × (j < lsh256.steps) }
     ensures { result ≡ tabulate 8 (constant lsh256 j) }
 {

@@ -12,7 +12,7 @@ ghost use Rattle.groups.specs.Group.{group};
 ghost use Rattle.loops.specs.Fours.{four};
 ghost use Rattle.groups.specs.GroupStep.{pair, groups, in_words, mix_pair, unmix_pair};
 
-use constants512::Lsh512;
+use words::Mix;
 
 // The groups X and Y of the same lanes.
 #[derive(Clone, Copy)]
@@ -76,11 +76,11 @@ fn mix_word(
     x: [u64; 4],
     y: [u64; 4],
     i: usize,
-) -> steps512::Pair
+) -> steps::Pair<u64>
     requires { (at g i < lsh512.bits) × (i < 4) }
     ensures { lane result.x result.y ≡ mix_lane lsh512.bits (alpha lsh512 j) (beta lsh512 j) (at g i) (at c i) (lane (at x i) (at y i)) }
 {
-    steps512::mix_lane(alpha(j), beta(j), g[i], c[i], x[i], y[i])
+    steps::mix_lane(alpha(j), beta(j), g[i], c[i], x[i], y[i])
 }
 
 fn unmix_word(
@@ -90,15 +90,15 @@ fn unmix_word(
     x: [u64; 4],
     y: [u64; 4],
     i: usize,
-) -> steps512::Pair
+) -> steps::Pair<u64>
     requires { (at g i < lsh512.bits) × (i < 4) }
     ensures { lane result.x result.y ≡ unmix_lane lsh512.bits (alpha lsh512 j) (beta lsh512 j) (at g i) (at c i) (lane (at x i) (at y i)) }
 {
-    steps512::unmix_lane(alpha(j), beta(j), g[i], c[i], x[i], y[i])
+    steps::unmix_lane(alpha(j), beta(j), g[i], c[i], x[i], y[i])
 }
 
 // Lanes 4l to 4l + 3 of step j.
-fn mix_pair(sc: &[u64; Lsh512::CONSTANTS], j: usize, l: usize, x: [u64; 4], y: [u64; 4]) -> Pair
+fn mix_pair(sc: &[u64], j: usize, l: usize, x: [u64; 4], y: [u64; 4]) -> Pair
     requires { (sc.now ≡ constants lsh512) × (j < lsh512.steps) × (l < 2) }
     ensures { pair result.x result.y ≡ mix_pair lsh512 j l (pair x y) }
 {
@@ -114,7 +114,7 @@ fn mix_pair(sc: &[u64; Lsh512::CONSTANTS], j: usize, l: usize, x: [u64; 4], y: [
     }
 }
 
-fn unmix_pair(sc: &[u64; Lsh512::CONSTANTS], j: usize, l: usize, x: [u64; 4], y: [u64; 4]) -> Pair
+fn unmix_pair(sc: &[u64], j: usize, l: usize, x: [u64; 4], y: [u64; 4]) -> Pair
     requires { (sc.now ≡ constants lsh512) × (j < lsh512.steps) × (l < 2) }
     ensures { pair result.x result.y ≡ unmix_pair lsh512 j l (pair x y) }
 {
@@ -144,21 +144,25 @@ fn in_words(p: Pair, q: Pair) -> [u64; 16]
     ]
 }
 
-// The mix of step j (10).
-pub fn mix(sc: &[u64; Lsh512::CONSTANTS], j: usize, t: [u64; 16]) -> [u64; 16]
-    requires { (sc.now ≡ constants lsh512) × (j < lsh512.steps) }
-    ensures { result ≡ mix lsh512 j t }
-{
-    let p = mix_pair(sc, j, 0, four(&t, 0), four(&t, 8));
-    let q = mix_pair(sc, j, 1, four(&t, 4), four(&t, 12));
-    in_words(p, q)
-}
+// The mix of a step in groups.
+pub struct ByGroups {}
 
-pub fn unmix(sc: &[u64; Lsh512::CONSTANTS], j: usize, t: [u64; 16]) -> [u64; 16]
-    requires { (sc.now ≡ constants lsh512) × (j < lsh512.steps) }
-    ensures { result ≡ unmix lsh512 j t }
-{
-    let p = unmix_pair(sc, j, 0, four(&t, 0), four(&t, 8));
-    let q = unmix_pair(sc, j, 1, four(&t, 4), four(&t, 12));
-    in_words(p, q)
+impl Mix<u64> for ByGroups {
+    fn mix(sc: &[u64], j: usize, t: [u64; 16]) -> [u64; 16]
+        requires { (sc.now ≡ constants lsh512) × (j < lsh512.steps) }
+        ensures { result ≡ mix lsh512 j t }
+    {
+        let p = mix_pair(sc, j, 0, four(&t, 0), four(&t, 8));
+        let q = mix_pair(sc, j, 1, four(&t, 4), four(&t, 12));
+        in_words(p, q)
+    }
+
+    fn unmix(sc: &[u64], j: usize, t: [u64; 16]) -> [u64; 16]
+        requires { (sc.now ≡ constants lsh512) × (j < lsh512.steps) }
+        ensures { result ≡ unmix lsh512 j t }
+    {
+        let p = unmix_pair(sc, j, 0, four(&t, 0), four(&t, 8));
+        let q = unmix_pair(sc, j, 1, four(&t, 4), four(&t, 12));
+        in_words(p, q)
+    }
 }

@@ -13,6 +13,3 @@ invariant-loop-i l = KeptBut l.initial.m l.m l.n 28
     × ((b : List ℕ) → ExpandedFrom lsh256 b l.initial.m l.n 1 → ExpandedFrom lsh256 b l.m l.n (l.i + 1))
     × (l.x ≡ shifts lsh256 (l.steps - l.i + 1))
     × (l.i ≤ l.steps)
-
-abbrev pub decreases-loop-i : goal.decreases-loop-i
-decreases-loop-i l = l.steps - l.i

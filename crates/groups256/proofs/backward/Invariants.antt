@@ -6,8 +6,5 @@ use Rattle.loops.specs.Rows.{expanded_words}
 use Rattle.loops.proofs.Runs.{RunBackward}
 use Rattle.groups256.proofs.backward.Given as goal
 
-abbrev pub invariant-loop-left : goal.invariant-loop-left
-invariant-loop-left l = RunBackward lsh256 l.steps (length l.s / block_bytes lsh256) l.s l.initial.c l.c l.count l.left × (length l.m ≡ expanded_words lsh256)
-
-abbrev pub decreases-loop-left : goal.decreases-loop-left
-decreases-loop-left l = l.left
+abbrev pub invariant-loop-k : goal.invariant-loop-k
+invariant-loop-k l = let n = length l.s / block_bytes lsh256 in RunBackward lsh256 l.steps n l.s l.initial.c l.c (n - l.k) l.k × (length l.m ≡ expanded_words lsh256)

@@ -17,6 +17,18 @@ pub load_block-requires : goal.load_block-requires
 unfolding lsh256 expanded_words
 load_block-requires c = search rules
 
+pub expand-requires : goal.expand-requires
+unfolding lsh256 expanded_words
+expand-requires c = (search rules, (search rules, c.requires.3, c.requires.4, c.sub_message-last.ensures, c.sub_message-before.ensures))
+
 pub sub_message-requires : goal.sub_message-requires
 unfolding lsh256 expanded_words
 sub_message-requires c = search rules
+
+pub sub_message-before-requires : goal.sub_message-before-requires
+unfolding lsh256 expanded_words
+sub_message-before-requires c = (omega arith, omega (arith, c.load_block.auto.m))
+
+pub sub_message-last-requires : goal.sub_message-last-requires
+unfolding lsh256 expanded_words
+sub_message-last-requires c = (omega arith, omega (arith, c.load_block.auto.m))

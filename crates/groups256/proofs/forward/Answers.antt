@@ -1,5 +1,4 @@
-use mathlib.Core.Path.{refl, sym, ◌∙◌}
-use Prim.Native.Nat.{◌-◌}
+use mathlib.Core.Path.{refl, ◌∙◌}
 use native.Mathlib.Omega.{arith}
 use borrow.Author.Rules.{rules}
 use Rattle.lsh.specs.WordSize.{lsh256, block_bytes}
@@ -7,22 +6,18 @@ use Rattle.loops.specs.Rows.{expanded_words}
 use Rattle.loops.proofs.Runs.{length_part, run-forward-none, run-forward-more, run-forward-all}
 use Rattle.groups256.proofs.forward.Goals as goal
 
-pub loop-count-init : goal.loop-count-init
+pub loop-k-init : goal.loop-k-init
 unfolding lsh256 block_bytes expanded_words
-loop-count-init c = (run-forward-none lsh256 _ _ _ _, search rules, refl)
-
-pub slice_bounds-forward_block-end : goal.slice_bounds-forward_block-end
-unfolding lsh256 block_bytes expanded_words
-slice_bounds-forward_block-end c = sym c.loop-count.invariant.1
+loop-k-init c = (run-forward-none lsh256 _ _ _ _, search rules)
 
 pub forward_block-next-requires : goal.forward_block-next-requires
 unfolding lsh256 block_bytes expanded_words
-forward_block-next-requires c = (c.step_constants-sc.ensures, c.powers-pw.ensures, c.loop-count.invariant.1, c.requires.1, length_part lsh256 c.args.s.now c.loop-count.count (omega arith))
+forward_block-next-requires c = (c.step_constants-sc.ensures, c.powers-pw.ensures, c.loop-k.invariant.1, c.requires.1, length_part lsh256 c.args.s.now c.loop-k.k (omega arith))
 
-pub loop-count-preserved : goal.loop-count-preserved
+pub loop-k-preserved : goal.loop-k-preserved
 unfolding lsh256 block_bytes expanded_words
-loop-count-preserved c = (run-forward-more _ c.loop-count.invariant.0 c.loop-count-test.true c.forward_block-next.ensures, c.forward_block-next.auto.m ∙ c.loop-count.invariant.1, c.loop-count.invariant.2)
+loop-k-preserved c = (run-forward-more _ c.loop-k.invariant.0 c.loop-k-test.true c.forward_block-next.ensures, c.forward_block-next.auto.m ∙ c.loop-k.invariant.1)
 
 pub returns : goal.returns
 unfolding lsh256 block_bytes expanded_words
-returns c = run-forward-all c.loop-count.invariant.0 c.loop-count-test.false
+returns c = let all = run-forward-all c.loop-k.invariant.0 c.loop-k-test.false in (all.0, refl)

@@ -1,13 +1,10 @@
 use mathlib.Core.Path.{◌≡◌}
-use Prim.Native.Nat.{◌+◌, ◌-◌, ◌/◌}
+use Prim.Native.Nat.{◌+◌, ◌/◌}
 use lib.ListN.{length}
 use Rattle.lsh.specs.WordSize.{lsh256, block_bytes}
 use Rattle.loops.specs.Rows.{expanded_words}
 use Rattle.loops.proofs.Runs.{RunForward}
 use Rattle.groups256.proofs.forward.Given as goal
 
-abbrev pub invariant-loop-count : goal.invariant-loop-count
-invariant-loop-count l = RunForward lsh256 l.steps l.n l.s l.initial.c l.c l.count × (length l.m ≡ expanded_words lsh256 + 16) × (l.n ≡ length l.s / block_bytes lsh256)
-
-abbrev pub decreases-loop-count : goal.decreases-loop-count
-decreases-loop-count l = l.n - l.count
+abbrev pub invariant-loop-k : goal.invariant-loop-k
+invariant-loop-k l = RunForward lsh256 l.steps (length l.s / block_bytes lsh256) l.s l.initial.c l.c l.k × (length l.m ≡ expanded_words lsh256 + 16)

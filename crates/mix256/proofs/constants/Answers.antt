@@ -3,6 +3,8 @@ use native.Mathlib.Omega.{arith}
 use Rattle.lsh.specs.WordSize.{lsh256}
 use Rattle.loops.proofs.Constants.{at_constant}
 use Rattle.loops.proofs.Places.{placed-none, filled_more, filled-all}
+use Rattle.word.specs.Own.{own}
+use Rattle.steps.proofs.Amounts.{constant_inside}
 use Rattle.mix256.proofs.constants.Goals as goal
 
 pub loop-l-init : goal.loop-l-init
@@ -20,11 +22,11 @@ returns c = filled-all c.loop-l.invariant c.loop-l-test.false refl
 
 pub bounds-sc-j : goal.bounds-sc-j
 unfolding lsh256
-bounds-sc-j c = omega arith
+bounds-sc-j c = omega (arith, constant_inside own lsh256 c.args.sc.now c.requires.0 c.requires.1 c.loop-l-test.true)
 
 pub offset_bounds-sc-j : goal.offset_bounds-sc-j
 unfolding lsh256
-offset_bounds-sc-j c = omega arith
+offset_bounds-sc-j c = omega (arith, constant_inside own lsh256 c.args.sc.now c.requires.0 c.requires.1 c.loop-l-test.true)
 
 pub overflow_add-r : goal.overflow_add-r
 unfolding lsh256

@@ -1,10 +1,13 @@
 use mathlib.Core.Path.{◌∙◌}
+use Prim.Native.Nat.{◌+◌, ◌*◌, ◌<◌}
 use native.Mathlib.Omega.{arith}
 use borrow.Author.Rules.{rules}
 use Rattle.lsh.specs.WordSize.{lsh512}
 use Rattle.lsh.proofs.Figures.{amounts512}
 use Rattle.loops.proofs.Groups.{four-constants}
 use Rattle.loops.proofs.Pairs.{gamma-below, mixed-pair}
+use Rattle.word.specs.Own.{own}
+use Rattle.steps.proofs.Amounts.{constant_inside}
 use Rattle.mix512.proofs.mix_pair.Goals as goal
 
 pub mix_word-p-requires : goal.mix_word-p-requires
@@ -30,7 +33,9 @@ returns c = mixed-pair lsh512 _ _ _ _ c.gamma-g.ensures (c.four-c.ensures ∙ fo
 
 pub four-c-requires : goal.four-c-requires
 unfolding lsh512
-four-c-requires c = search rules
+four-c-requires c =
+    let last : c.args.l * 4 + 3 < 8 = omega (arith, c.requires.2) in
+    omega (arith, constant_inside own lsh512 c.args.sc.now c.requires.0 c.requires.1 last)
 
 pub overflow_add-j : goal.overflow_add-j
 unfolding lsh512

@@ -1,6 +1,6 @@
 use Rattle.lsh.specs.WordSize.{lsh512}
 use Rattle.loops.proofs.Groups.{unmixed-by-groups}
-use Rattle.mix512.proofs.unmix.Goals as goal
+use Rattle.mix512.proofs.ByGroupsMixU64.unmix.Goals as goal
 
 pub returns : goal.returns
 returns c = unmixed-by-groups lsh512 _ _ c.in_words.ensures

@@ -1,6 +1,6 @@
 use Rattle.lsh.specs.WordSize.{lsh512}
 use Rattle.loops.proofs.Groups.{mixed-by-groups}
-use Rattle.mix512.proofs.mix.Goals as goal
+use Rattle.mix512.proofs.ByGroupsMixU64.mix.Goals as goal
 
 pub returns : goal.returns
 returns c = mixed-by-groups lsh512 _ _ c.in_words.ensures
