@@ -4,7 +4,7 @@
 ghost use Rattle.std.specs.Prelude.{◌≡◌, true, ◌∷◌, ℕ, ◌+◌, ◌*◌, ◌/◌, ◌^◌, ◌<◌, ◌≤◌, length, replicate};
 ghost use Rattle.std.proofs.Math.Seq.{paste};
 ghost use Rattle.lsh.specs.Tabulate.{at};
-ghost use Rattle.lsh.specs.WordSize.{is_word_size, lsh256, lsh512, size_of, chain_bytes, block_bytes};
+ghost use Rattle.lsh.specs.WordSize.{is_word_size, size_of, chain_bytes, block_bytes};
 ghost use Rattle.lsh.specs.Bytes.{words_of, bytes_of};
 ghost use Rattle.lsh.specs.Block.{Chain, forwards_steps, backwards_steps, forwards, backwards};
 ghost use Rattle.lsh.specs.Opening.{opening};
@@ -13,8 +13,13 @@ ghost use Rattle.lists.specs.ZeroFilled.{zero_filled};
 ghost use Rattle.limits.specs.Limits.{longest_block, longest_digest, is_digest_length};
 
 use limits::LONGEST_BLOCK;
-use lsh256::Lsh256;
-use lsh512::Lsh512;
+use word::Word;
+
+pub use words::Run;
+
+mod engines;
+
+use crate::engines::Engines;
 
 // Which code runs the blocks: word by word, or in groups of four words. Both give the same chains, so that no contract names the one that a call is given.
 #[derive(Clone, Copy)]
@@ -26,11 +31,13 @@ pub enum Engine {
 // The number of the groups for C. Every other number is the words.
 const GROUPS: u64 = 2;
 
-pub fn engine_of(number: u64) -> Engine {
-    if number == GROUPS {
-        return Engine::Groups;
+impl From<u64> for Engine {
+    fn from(number: u64) -> Engine {
+        if number == GROUPS {
+            return Engine::Groups;
+        }
+        Engine::Words
     }
-    Engine::Words
 }
 
 // The one that was measured to be faster at a word size.
@@ -65,9 +72,9 @@ pub fn block_bytes(w: u64) -> usize
     ensures { result ≡ block_bytes (size_of w) }
 {
     if w == 64 {
-        return Lsh512::BLOCK;
+        return u64::BLOCK;
     }
-    Lsh256::BLOCK
+    u32::BLOCK
 }
 
 // Bytes of a chain, by w.
@@ -75,9 +82,9 @@ pub fn chain_bytes(w: u64) -> usize
     ensures { result ≡ chain_bytes (size_of w) }
 {
     if w == 64 {
-        return Lsh512::CHAIN;
+        return u64::CHAIN;
     }
-    Lsh256::CHAIN
+    u32::CHAIN
 }
 
 // The most bits of a digest: 8w, where a block has 4w bytes.
@@ -87,109 +94,50 @@ pub fn longest_digest(w: u64) -> u64
     2 * block_bytes(w) as u64
 }
 
-// A chain after whole blocks, and how many there were.
-#[derive(Clone, Copy)]
-pub struct Run {
-    pub chain: [u64; 16],
-    pub count: usize,
-}
-
-// Runs the whole blocks of s forward, in order, on the chain t, at one word size. These four functions and the four behind them alone look at the engine.
-fn forward32(engine: Engine, t: [u32; 16], s: &[u8]) -> lsh256::Run
-    ensures { (result.chain ≡ forwards lsh256 (blocks_of lsh256 s.now) t) × (result.count ≡ length s.now / block_bytes lsh256) }
+// Runs the whole blocks of s forward, in order, on the chain t, at one word size. These two functions and the two behind them alone look at the engine.
+fn forward_at<W: Engines>(engine: Engine, t: [W; 16], s: &[u8]) -> Run<W>
+    ensures { (W.numbers result.chain ≡ forwards W.size (blocks_of W.size s.now) (W.numbers t)) × (result.count ≡ length s.now / block_bytes W.size) }
 {
     match engine {
-        Engine::Words => lsh256::forward(Lsh256::STEPS, t, s),
-        Engine::Groups => groups256::forward(Lsh256::STEPS, t, s),
+        Engine::Words => W::words_forward(W::STEPS, t, s),
+        Engine::Groups => W::groups_forward(W::STEPS, t, s),
     }
 }
-
-fn forward64(engine: Engine, t: [u64; 16], s: &[u8]) -> lsh512::Run
-    ensures { (result.chain ≡ forwards lsh512 (blocks_of lsh512 s.now) t) × (result.count ≡ length s.now / block_bytes lsh512) }
-{
-    match engine {
-        Engine::Words => lsh512::forward(Lsh512::STEPS, t, s),
-        Engine::Groups => groups512::forward(Lsh512::STEPS, t, s),
-    }
-}
-
-// From so many bytes on the groups at w = 32 have a run backward of their own, which is faster over two blocks and more. (A block call has one block, and still chooses: an
-// engine with a single caller would be written into it.)
-const MANY: usize = 2 * Lsh256::BLOCK;
 
 // Backward, from the last block.
-fn backward32(engine: Engine, t: [u32; 16], s: &[u8]) -> lsh256::Run
-    ensures { (result.chain ≡ backwards lsh256 (blocks_of lsh256 s.now) t) × (result.count ≡ length s.now / block_bytes lsh256) }
+fn backward_at<W: Engines>(engine: Engine, t: [W; 16], s: &[u8]) -> Run<W>
+    ensures { (W.numbers result.chain ≡ backwards W.size (blocks_of W.size s.now) (W.numbers t)) × (result.count ≡ length s.now / block_bytes W.size) }
 {
     match engine {
-        Engine::Words => lsh256::backward(Lsh256::STEPS, t, s),
-        Engine::Groups => {
-            if s.len() < MANY {
-                return groups256::backward(Lsh256::STEPS, t, s);
-            }
-            ahead256::backward(Lsh256::STEPS, t, s)
-        }
+        Engine::Words => W::words_backward(W::STEPS, t, s),
+        Engine::Groups => W::groups_backward(W::STEPS, t, s),
     }
 }
 
-fn backward64(engine: Engine, t: [u64; 16], s: &[u8]) -> lsh512::Run
-    ensures { (result.chain ≡ backwards lsh512 (blocks_of lsh512 s.now) t) × (result.count ≡ length s.now / block_bytes lsh512) }
-{
-    match engine {
-        Engine::Words => lsh512::backward(Lsh512::STEPS, t, s),
-        Engine::Groups => groups512::backward(Lsh512::STEPS, t, s),
-    }
-}
-
-// The same with a number of steps, for the block calls. They do not stand under the four above: an engine that one function alone calls is written into it by the compiler,
+// The same with a number of steps, for the block calls. They do not stand under the two above: an engine that one function alone calls is written into it by the compiler,
 // which then no longer works on four words at once.
-fn forward_steps32(engine: Engine, steps: usize, t: [u32; 16], s: &[u8]) -> lsh256::Run
-    requires { (1 ≤ steps) × (steps ≤ lsh256.steps) }
-    ensures { (result.chain ≡ forwards_steps lsh256 steps (blocks_of lsh256 s.now) t) × (result.count ≡ length s.now / block_bytes lsh256) }
+fn forward_steps_at<W: Engines>(engine: Engine, steps: usize, t: [W; 16], s: &[u8]) -> Run<W>
+    requires { (1 ≤ steps) × (steps ≤ W.size.steps) }
+    ensures { (W.numbers result.chain ≡ forwards_steps W.size steps (blocks_of W.size s.now) (W.numbers t)) × (result.count ≡ length s.now / block_bytes W.size) }
 {
     match engine {
-        Engine::Words => lsh256::forward(steps, t, s),
-        Engine::Groups => groups256::forward(steps, t, s),
+        Engine::Words => W::words_forward(steps, t, s),
+        Engine::Groups => W::groups_forward(steps, t, s),
     }
 }
 
-fn forward_steps64(engine: Engine, steps: usize, t: [u64; 16], s: &[u8]) -> lsh512::Run
-    requires { (1 ≤ steps) × (steps ≤ lsh512.steps) }
-    ensures { (result.chain ≡ forwards_steps lsh512 steps (blocks_of lsh512 s.now) t) × (result.count ≡ length s.now / block_bytes lsh512) }
+fn backward_steps_at<W: Engines>(engine: Engine, steps: usize, t: [W; 16], s: &[u8]) -> Run<W>
+    requires { (1 ≤ steps) × (steps ≤ W.size.steps) }
+    ensures { (W.numbers result.chain ≡ backwards_steps W.size steps (blocks_of W.size s.now) (W.numbers t)) × (result.count ≡ length s.now / block_bytes W.size) }
 {
     match engine {
-        Engine::Words => lsh512::forward(steps, t, s),
-        Engine::Groups => groups512::forward(steps, t, s),
-    }
-}
-
-fn backward_steps32(engine: Engine, steps: usize, t: [u32; 16], s: &[u8]) -> lsh256::Run
-    requires { (1 ≤ steps) × (steps ≤ lsh256.steps) }
-    ensures { (result.chain ≡ backwards_steps lsh256 steps (blocks_of lsh256 s.now) t) × (result.count ≡ length s.now / block_bytes lsh256) }
-{
-    match engine {
-        Engine::Words => lsh256::backward(steps, t, s),
-        Engine::Groups => {
-            if s.len() < MANY {
-                return groups256::backward(steps, t, s);
-            }
-            ahead256::backward(steps, t, s)
-        }
-    }
-}
-
-fn backward_steps64(engine: Engine, steps: usize, t: [u64; 16], s: &[u8]) -> lsh512::Run
-    requires { (1 ≤ steps) × (steps ≤ lsh512.steps) }
-    ensures { (result.chain ≡ backwards_steps lsh512 steps (blocks_of lsh512 s.now) t) × (result.count ≡ length s.now / block_bytes lsh512) }
-{
-    match engine {
-        Engine::Words => lsh512::backward(steps, t, s),
-        Engine::Groups => groups512::backward(steps, t, s),
+        Engine::Words => W::words_backward(steps, t, s),
+        Engine::Groups => W::groups_backward(steps, t, s),
     }
 }
 
 // Runs the whole blocks of s forward, in order, on the chain t.
-pub fn forward(engine: Engine, w: u64, t: [u64; 16], s: &[u8]) -> Run
+pub fn forward(engine: Engine, w: u64, t: [u64; 16], s: &[u8]) -> Run<u64>
     requires { (is_word_size w ≡ true) × Chain (size_of w) t }
     ensures { (result.chain ≡ forwards (size_of w) (blocks_of (size_of w) s.now) t) × (result.count ≡ length s.now / block_bytes (size_of w)) }
 {
@@ -198,23 +146,13 @@ pub fn forward(engine: Engine, w: u64, t: [u64; 16], s: &[u8]) -> Run
         return Run { chain: t, count: 0 };
     }
     if w == 32 {
-        let small = forward32(engine, narrow(t), s);
-        let words = small.chain;
-        return Run {
-            chain: widen(words),
-            count: small.count,
-        };
+        return widened(forward_at(engine, narrow(t), s));
     }
-    let run = forward64(engine, t, s);
-    let chain = run.chain;
-    Run {
-        chain: chain,
-        count: run.count,
-    }
+    forward_at(engine, t, s)
 }
 
 // Runs the whole blocks of s backward, from the last, on the chain t.
-pub fn backward(engine: Engine, w: u64, t: [u64; 16], s: &[u8]) -> Run
+pub fn backward(engine: Engine, w: u64, t: [u64; 16], s: &[u8]) -> Run<u64>
     requires { (is_word_size w ≡ true) × Chain (size_of w) t }
     ensures { (result.chain ≡ backwards (size_of w) (blocks_of (size_of w) s.now) t) × (result.count ≡ length s.now / block_bytes (size_of w)) }
 {
@@ -222,19 +160,9 @@ pub fn backward(engine: Engine, w: u64, t: [u64; 16], s: &[u8]) -> Run
         return Run { chain: t, count: 0 };
     }
     if w == 32 {
-        let small = backward32(engine, narrow(t), s);
-        let words = small.chain;
-        return Run {
-            chain: widen(words),
-            count: small.count,
-        };
+        return widened(backward_at(engine, narrow(t), s));
     }
-    let run = backward64(engine, t, s);
-    let chain = run.chain;
-    Run {
-        chain: chain,
-        count: run.count,
-    }
+    backward_at(engine, t, s)
 }
 
 // The same on the bytes of a chain. Its words stay at the width of w: a block alone would take some hundredths longer if they were widened and narrowed.
@@ -243,16 +171,12 @@ pub fn forward_bytes(engine: Engine, w: u64, chain: &mut [u8], s: &[u8])
     ensures { chain.new ≡ bytes_of (size_of w) (forwards (size_of w) (blocks_of (size_of w) s.now) (words_of (size_of w) 16 chain.old)) }
 {
     if w == 32 {
-        let t = lsh256::load_chain(chain);
-        let run = forward_steps32(engine, Lsh256::STEPS, t, s);
-        let ahead = run.chain;
-        lsh256::store_chain(chain, ahead);
-        return;
+        let room = Run { chain: [0u32; 16], count: 0 };
+        forward_bytes_at(engine, room, chain, s);
+    } else {
+        let room = Run { chain: [0u64; 16], count: 0 };
+        forward_bytes_at(engine, room, chain, s);
     }
-    let t = lsh512::load_chain(chain);
-    let run = forward_steps64(engine, Lsh512::STEPS, t, s);
-    let ahead = run.chain;
-    lsh512::store_chain(chain, ahead);
 }
 
 pub fn backward_bytes(engine: Engine, w: u64, chain: &mut [u8], s: &[u8])
@@ -260,16 +184,33 @@ pub fn backward_bytes(engine: Engine, w: u64, chain: &mut [u8], s: &[u8])
     ensures { chain.new ≡ bytes_of (size_of w) (backwards (size_of w) (blocks_of (size_of w) s.now) (words_of (size_of w) 16 chain.old)) }
 {
     if w == 32 {
-        let t = lsh256::load_chain(chain);
-        let run = backward_steps32(engine, Lsh256::STEPS, t, s);
-        let before = run.chain;
-        lsh256::store_chain(chain, before);
-        return;
+        let room = Run { chain: [0u32; 16], count: 0 };
+        backward_bytes_at(engine, room, chain, s);
+    } else {
+        let room = Run { chain: [0u64; 16], count: 0 };
+        backward_bytes_at(engine, room, chain, s);
     }
-    let t = lsh512::load_chain(chain);
-    let run = backward_steps64(engine, Lsh512::STEPS, t, s);
-    let before = run.chain;
-    lsh512::store_chain(chain, before);
+}
+
+// At one word size. The room is for the words of the chain.
+fn forward_bytes_at<W: Engines>(engine: Engine, room: Run<W>, chain: &mut [u8], s: &[u8])
+    requires { length chain.old ≡ chain_bytes W.size }
+    ensures { chain.new ≡ bytes_of W.size (forwards W.size (blocks_of W.size s.now) (words_of W.size 16 chain.old)) }
+{
+    let mut t = room.chain;
+    words::load_chain(chain, &mut t);
+    let ahead = forward_steps_at(engine, W::STEPS, t, s);
+    words::store_chain(chain, ahead.chain);
+}
+
+fn backward_bytes_at<W: Engines>(engine: Engine, room: Run<W>, chain: &mut [u8], s: &[u8])
+    requires { length chain.old ≡ chain_bytes W.size }
+    ensures { chain.new ≡ bytes_of W.size (backwards W.size (blocks_of W.size s.now) (words_of W.size 16 chain.old)) }
+{
+    let mut t = room.chain;
+    words::load_chain(chain, &mut t);
+    let before = backward_steps_at(engine, W::STEPS, t, s);
+    words::store_chain(chain, before.chain);
 }
 
 // The opening chain. Those of the published functions are stored, which saves a run where the message is short.
@@ -332,10 +273,10 @@ pub fn store_chain(w: u64, d: &mut [u8], t: [u64; 16])
     ensures { d.new ≡ bytes_of (size_of w) t }
 {
     if w == 32 {
-        lsh256::store_chain(d, narrow(t));
+        words::store_chain(d, narrow(t));
         return;
     }
-    lsh512::store_chain(d, t);
+    words::store_chain(d, t);
 }
 
 // The same numbers as words of 32 bits, and back.
@@ -358,4 +299,13 @@ fn widen(t: [u32; 16]) -> [u64; 16]
         r[l] = t[l] as u64;
     }
     r
+}
+
+fn widened(run: Run<u32>) -> Run<u64>
+    ensures { (result.chain ≡ run.chain) × (result.count ≡ run.count) }
+{
+    Run {
+        chain: widen(run.chain),
+        count: run.count,
+    }
 }

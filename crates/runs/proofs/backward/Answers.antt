@@ -10,17 +10,16 @@ use Rattle.runs.proofs.Sizes.{run_by, run_none}
 use Rattle.runs.proofs.backward.Goals as goal
 
 pub returns-then-s-block_bytes : goal.returns-then-s-block_bytes
-unfolding lsh256 backwards
+unfolding backwards
 returns-then-s-block_bytes c = run_none backwards _ c.args.s.now _ refl (omega arith)
 
 pub narrow-requires : goal.narrow-requires
-unfolding lsh256 backwards
+unfolding lsh256
 narrow-requires c l = subst (λ (z : WordSize). at c.args.t l < 2 ^ z.bits) (size_32 c.if-w-eq32.true) (c.requires.1.below l)
 
 pub returns-then-w-eq32 : goal.returns-then-w-eq32
-unfolding lsh256 backwards
-returns-then-w-eq32 c = run_by backwards _ _ (size_32 c.if-w-eq32.true) c.narrow.ensures (c.widen.ensures ∙ c.backward32-small.ensures.0, c.backward32-small.ensures.1)
+returns-then-w-eq32 c =
+    run_by backwards _ _ (size_32 c.if-w-eq32.true) c.narrow.ensures (c.widened.ensures.0 ∙ c.backward_at.ensures.0, c.widened.ensures.1 ∙ c.backward_at.ensures.1)
 
 pub returns : goal.returns
-unfolding lsh256 backwards
-returns c = run_by backwards _ _ (size_64 _ c.requires.0 c.if-w-eq32.false) refl c.backward64-run.ensures
+returns c = run_by backwards _ _ (size_64 _ c.requires.0 c.if-w-eq32.false) refl c.backward_at-2.ensures

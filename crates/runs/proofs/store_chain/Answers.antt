@@ -1,6 +1,7 @@
 -- `runs::store_chain` meets its contract, by the word size. Assumes nothing.
 use mathlib.Core.Path.{sym, ap, ap₂, ◌∙◌, subst}
 use Prim.Native.Nat.{◌<◌, ◌^◌}
+use native.Mathlib.Omega.{arith}
 use Rattle.lsh.specs.Tabulate.{at}
 use Rattle.lsh.specs.WordSize.{WordSize, lsh256, chain_bytes}
 use Rattle.lsh.specs.Bytes.{bytes_of}
@@ -13,7 +14,7 @@ narrow-requires c l = subst (λ (z : WordSize). at c.args.t l < 2 ^ z.bits) (siz
 
 pub store_chain-requires : goal.store_chain-requires
 unfolding lsh256
-store_chain-requires c = c.requires.2 ∙ ap chain_bytes (size_32 c.if-w-eq32.true)
+store_chain-requires c = (omega arith, c.requires.2 ∙ ap chain_bytes (size_32 c.if-w-eq32.true))
 
 pub returns-then-w-eq32 : goal.returns-then-w-eq32
 unfolding lsh256
@@ -21,7 +22,7 @@ returns-then-w-eq32 c = c.store_chain.ensures ∙ ap₂ bytes_of (sym (size_32 c
 
 pub store_chain-requires-2 : goal.store_chain-requires-2
 unfolding lsh256
-store_chain-requires-2 c = c.requires.2 ∙ ap chain_bytes (size_64 _ c.requires.0 c.if-w-eq32.false)
+store_chain-requires-2 c = (omega arith, c.requires.2 ∙ ap chain_bytes (size_64 _ c.requires.0 c.if-w-eq32.false))
 
 pub returns : goal.returns
 unfolding lsh256

@@ -1,0 +1,9 @@
+use mathlib.Core.Path.{refl}
+use native.Mathlib.Omega.{arith}
+use Rattle.lsh.specs.WordSize.{lsh256}
+use Rattle.loops.specs.Rows.{expanded_words}
+use Rattle.runs.proofs.engines.U32Engines.words_backward.Goals as goal
+
+pub backward-requires : goal.backward-requires
+unfolding lsh256 expanded_words
+backward-requires c = (omega arith, (omega arith, (refl, refl, c.requires.0, c.requires.1)))

@@ -1,7 +1,0 @@
-use Rattle.std.proofs.Common.{refl}
-use Rattle.lsh.specs.Bytes.{byte_at}
-use Rattle.word32.proofs.byte.Goals as goal
-
-pub returns : goal.returns
-unfolding byte_at
-returns c = refl

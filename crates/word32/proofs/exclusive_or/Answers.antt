@@ -1,5 +1,0 @@
-use Rattle.loops.proofs.Machine.{xor_is}
-use Rattle.word32.proofs.exclusive_or.Goals as goal
-
-pub returns : goal.returns
-returns c = xor_is 32 c.args.x c.args.y c.ranges.x.fits c.ranges.y.fits

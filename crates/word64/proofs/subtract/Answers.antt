@@ -1,7 +1,0 @@
-use Rattle.std.proofs.Common.{rules}
-use Rattle.loops.proofs.Machine.{sub_is}
-use Rattle.word64.proofs.subtract.Goals as goal
-
-pub returns : goal.returns
-returns c = sub_is 64 c.wrapping_sub_u64.result c.args.x c.args.y (search rules) (search rules)
-    c.wrapping_sub_u64.ensures.value
