@@ -1,7 +1,8 @@
 -- Bytes read from two lower-case hexadecimal digits each, the high one first.
 -- Assumes nothing.
-use Rattle.std.specs.Prelude.{Bool, true, not, ◌&&◌, ◌||◌, cond, List, [], ◌∷◌, ℕ, ◌+◌, ◌-◌, ◌*◌, ◌/◌, ◌%◌, eqb, ltb, leb, length, Option, Some, None}
+use Rattle.std.specs.Prelude.{Bool, not, ◌&&◌, ◌||◌, cond, List, [], ℕ, ◌+◌, ◌-◌, ◌*◌, ◌/◌, ◌%◌, eqb, ltb, leb, length, Option, Some, None}
 use Rattle.std.proofs.lemmas.List.Edits.{sets}
+use Rattle.std.specs.List.{list_all}
 use Rattle.lsh.specs.Tabulate.{at, tabulate}
 
 -- 0 to 9
@@ -13,8 +14,7 @@ unfoldable pub is_hex_digit : ℕ → Bool
 is_hex_digit c = cond (ltb c 97) (is_digit c) (leb c 102)
 
 abbrev pub all_hex : List ℕ → Bool
-all_hex [] = true
-all_hex (c ∷ s) = is_hex_digit c && all_hex s
+all_hex s = list_all is_hex_digit s
 
 -- the value of a digit
 unfoldable pub hex_value : ℕ → ℕ

@@ -3,8 +3,7 @@
 use mathlib.Core.Path.{◌≡◌, refl, sym, ap, ◌∙◌}
 use mathlib.Core.Bool.{Bool, true, false, cond}
 use mathlib.Core.List.{List, [], ◌∷◌}
-use Prim.Native.Nat.{ℕ, zero, suc, ◌+◌, ◌-◌, ◌≤◌, ◌<◌}
-use native.Mathlib.Nat.{zero-add, add-zero}
+use Prim.Native.Nat.{ℕ, zero, suc, ◌+◌, ◌-◌, ◌≤◌, ◌<◌, zero-le}
 use native.Mathlib.Numerals.{add-one}
 use native.Mathlib.Omega.{arith}
 use lib.Dec.{eqb}
@@ -15,18 +14,13 @@ use Rattle.script.specs.Words.{before, after_spaces}
 
 -- the bytes before the mark
 
-pub before-none : (m : ℕ) (s : List ℕ) → length (before m s) ≡ 0 + length (before m (drop 0 s))
-before-none m s = sym (zero-add (length (before m s)))
-
-module _ (m : ℕ) (s : List ℕ) (i : ℕ) (passed : length (before m s) ≡ i + length (before m (drop i s))) where
-  pub before_here : i < length s → get_or s i 0 ≡ m → i ≡ length (before m s)
-  before_here lt e = sym (passed ∙ rw (drop-cons s i 0 lt, eq-eqb (get_or s i 0) m e) (add-zero i))
-
-  pub before_more : i < length s → (get_or s i 0 ≡ m → ⊥) → length (before m s) ≡ i + 1 + length (before m (drop (i + 1) s))
-  before_more lt ne = passed ∙ rw (add-one i, drop-cons s i 0 lt, ne_eqb (get_or s i 0) m ne) (omega arith)
-
-  pub before-all : length s ≤ i → i ≡ length (before m s)
-  before-all le = sym (passed ∙ rw (drop_of_length-le s {i = i} le) (add-zero i))
+pub before-le : (m : ℕ) (s : List ℕ) → length (before m s) ≤ length s
+before-le m [] = zero-le
+before-le m (x ∷ s) = go (eqb x m) (before-le m s)
+  where
+    go : (b : Bool) → length (before m s) ≤ length s → length (cond b [] (x ∷ before m s)) ≤ length (x ∷ s)
+    go true le = zero-le
+    go false le = omega arith
 
 pub take-before : (m : ℕ) (s : List ℕ) → take (length (before m s)) s ≡ before m s
 take-before m [] = refl

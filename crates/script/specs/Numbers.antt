@@ -1,12 +1,12 @@
 -- Numbers in decimal digits, and words of a chain in bytes.
 -- Assumes nothing.
-use Rattle.std.specs.Prelude.{Bool, true, not, ◌&&◌, cond, List, [], ◌∷◌, ℕ, zero, suc, ◌+◌, ◌-◌, ◌*◌, ◌^◌, eqb, ltb, length, Option, Some, None}
+use Rattle.std.specs.Prelude.{Bool, not, ◌&&◌, cond, List, [], ◌∷◌, ℕ, zero, suc, ◌+◌, ◌-◌, ◌*◌, ◌^◌, eqb, ltb, length, Option, Some, None}
+use Rattle.std.specs.List.{list_all}
 use Rattle.lsh.specs.Tabulate.{at}
 use Rattle.hexadecimal.specs.Hex.{is_digit}
 
 abbrev pub all_digits : List ℕ → Bool
-all_digits [] = true
-all_digits (c ∷ s) = is_digit c && all_digits s
+all_digits s = list_all is_digit s
 
 -- the number whose digits are those of x and then s
 abbrev pub value_after : ℕ → List ℕ → ℕ

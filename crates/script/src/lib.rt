@@ -1,11 +1,10 @@
 // The words of a replay script: a line taken apart into words, and what a word says.
 #![tactic(auto)]
 
-ghost use Rattle.std.specs.Prelude.{◌≡◌, true, ◌+◌, ◌-◌, ◌*◌, ◌<◌, ◌≤◌, length, drop, None};
+ghost use Rattle.std.specs.Prelude.{◌≡◌, ◌+◌, ◌*◌, ◌≤◌, length, drop};
 ghost use Rattle.lsh.specs.Tabulate.{tabulate};
 ghost use Rattle.script.specs.Words.{before, after_spaces, word_at, place_of};
 ghost use Rattle.script.specs.Numbers.{word_number, wide_chain, highest_first};
-ghost use Rattle.hexadecimal.specs.Hex.{is_digit};
 
 // The bytes of a chain in a script, where each of the 16 words has eight at either word size.
 pub const WIDE_CHAIN: usize = 16 * 8;
@@ -22,14 +21,7 @@ pub const ENGINES: u64 = 2;
 pub fn until(s: &[u8], mark: u8) -> usize
     ensures { (result ≡ length (before mark s.now)) × (result ≤ length s.now) }
 {
-    let mut i: usize = 0;
-    while i < s.len() {
-        if s[i] == mark {
-            return i;
-        }
-        i += 1;
-    }
-    i
+    s.iter().position(|c| *c == mark).unwrap_or(s.len())
 }
 
 // Word i of a line, counted from 0; an empty one where the line has fewer.
@@ -81,32 +73,17 @@ pub fn place(names: &[u8], name: &[u8]) -> Option<usize>
 pub fn read_number(word: &[u8]) -> Option<u64>
     ensures { result ≡ word_number word.now }
 {
-    if word.len() == 0 {
+    if word.is_empty() {
         return None;
     }
     let mut x: u64 = 0;
-    let mut i: usize = 0;
-    while i < word.len() {
-        let c = word[i];
-        if !hexadecimal::is_digit(c) {
+    for c in word {
+        if !c.is_ascii_digit() {
             return None;
         }
-        let d = digit_value(c);
-        // 10 x + d is below 2^64 exactly if x is at most this.
-        if (u64::MAX - d) / 10 < x {
-            return None;
-        }
-        x = 10 * x + d;
-        i += 1;
+        x = x.checked_mul(10)?.checked_add(u64::from(*c - b'0'))?;
     }
     Some(x)
-}
-
-fn digit_value(c: u8) -> u64
-    requires { is_digit c ≡ true }
-    ensures { (result ≡ c - 48) × (result < 10) }
-{
-    (c - b'0') as u64
 }
 
 // The words of a chain, each of eight bytes, the highest first.
@@ -115,26 +92,9 @@ pub fn chain_of(bytes: &[u8]) -> [u64; 16]
     ensures { result ≡ tabulate 16 (λ l. highest_first 8 bytes.now (8 * l)) }
 {
     let mut chain = [0u64; 16];
-    for l in 0..16usize {
-        chain[l] = chain_word(bytes, 8 * l);
+    let (words, _) = bytes.as_chunks::<8>();
+    for (l, word) in words.iter().enumerate() {
+        chain[l] = u64::from_be_bytes(*word);
     }
     chain
-}
-
-fn chain_word(s: &[u8], a: usize) -> u64
-    requires { a + 8 ≤ length s.now }
-    ensures { result ≡ highest_first 8 s.now a }
-{
-    let mut x: u64 = 0;
-    for i in 0..8usize {
-        let place = a + i;
-        x = 256 * x + wide(s[place]);
-    }
-    x
-}
-
-fn wide(x: u8) -> u64
-    ensures { (result ≡ x) × (result < 256) }
-{
-    x as u64
 }
