@@ -1,9 +1,9 @@
 // The words of a replay script: a line taken apart into words, and what a word says.
 #![tactic(auto)]
 
-ghost use Rattle.std.specs.Prelude.{◌≡◌, ◌+◌, ◌*◌, ◌≤◌, length, drop};
+ghost use Rattle.std.specs.Prelude.{◌≡◌, ◌+◌, ◌*◌, ◌≤◌, length};
 ghost use Rattle.lsh.specs.Tabulate.{tabulate};
-ghost use Rattle.script.specs.Words.{before, after_spaces, word_at, place_of};
+ghost use Rattle.script.specs.Words.{before, word_at, place_of};
 ghost use Rattle.script.specs.Numbers.{word_number, wide_chain, highest_first};
 
 // The bytes of a chain in a script, where each of the 16 words has eight at either word size.
@@ -28,45 +28,19 @@ pub fn until(s: &[u8], mark: u8) -> usize
 pub fn word(line: &[u8], i: usize) -> &[u8]
     ensures { result.now ≡ word_at i line.now }
 {
-    let from = after_spaces(line, i);
-    let rest = &line[from..];
-    let n = until(rest, b' ');
-    &rest[..n]
-}
-
-// The place after the first k spaces of a line: its end if it has fewer.
-fn after_spaces(line: &[u8], k: usize) -> usize
-    ensures { (drop result line.now ≡ after_spaces k line.now) × (result ≤ length line.now) }
-{
-    let mut left = k;
-    let mut i: usize = 0;
-    while i < line.len() {
-        if left == 0 {
-            return i;
-        }
-        if line[i] == b' ' {
-            left -= 1;
-        }
-        i += 1;
+    match line.split(|c| *c == b' ').nth(i) {
+        Some(word) => word,
+        None => &[],
     }
-    i
 }
 
 // The place of a name among names with one space between two, counted from 0, if it is one of them.
 pub fn place(names: &[u8], name: &[u8]) -> Option<usize>
     ensures { result ≡ place_of names.now name.now }
 {
-    let mut i: usize = 0;
-    let mut from: usize = 0;
-    while from <= names.len() {
-        let to = from + until(&names[from..], b' ');
-        if buffers::equal_bytes(&names[from..to], name) {
-            return Some(i);
-        }
-        from = to + 1;
-        i += 1;
-    }
-    None
+    names
+        .split(|c| *c == b' ')
+        .position(|word| buffers::equal_bytes(word, name))
 }
 
 // The number that a word says, if it is one.
