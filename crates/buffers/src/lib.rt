@@ -21,9 +21,12 @@ pub fn put(output: &mut [u8], from: usize, part: &[u8]) -> usize
     requires { from + length part.now ≤ length output.old }
     ensures { (result ≡ from + length part.now) × (output.new ≡ sets output.old from part.now) }
 {
-    let to = from + part.len();
-    output[from..to].copy_from_slice(part);
-    to
+    // With copy_from_slice the archive for C would want memmove beside memcpy and memset.
+    for (i, x) in part.iter().enumerate() {
+        let place = from + i;
+        output[place] = *x;
+    }
+    from + part.len()
 }
 
 // Whether each byte from a place on is 0.
