@@ -10,6 +10,7 @@ ghost use Rattle.decimal.specs.Number.{most_digits};
 pub const DIGITS: usize = 20;
 
 // Writes the digits of a number into the output from a place on, and returns the place after them.
+#[tactic(auto, using(crate::proofs::Digits::few_digits))]
 pub fn put_number(output: &mut [u8], from: usize, x: u64) -> usize
     requires { from + most_digits ≤ length output.old }
     ensures { (result ≤ from + most_digits) × IsDigitCount 10 1 x (result - from) × (output.new ≡ sets output.old from (last_digits 10 (result - from) x)) }

@@ -3,14 +3,15 @@
 
 ghost use Rattle.std.specs.Prelude.{◌≡◌, ◌+◌, ◌*◌, ◌<◌, ◌≤◌, length};
 ghost use Rattle.std.proofs.lemmas.List.Edits.{sets};
-ghost use Rattle.text.specs.Printed.{hex_digit, digit_at, digits_of, printed};
+ghost use Rattle.text.specs.Printed.{hex_digit, digits_of, printed};
 
 // Writes bytes as they are printed into the output from a place on, and returns the place after them.
+#[tactic(auto, using(crate::proofs::Printing::length_digits), unfolding(crate::specs::Printed::printed))]
 pub fn put_bytes(output: &mut [u8], from: usize, bytes: &[u8]) -> usize
     requires { from + 2 * length bytes.now + 1 ≤ length output.old }
     ensures { (result ≡ from + length (printed bytes.now)) × (result ≤ from + 2 * length bytes.now + 1) × (output.new ≡ sets output.old from (printed bytes.now)) }
 {
-    if bytes.len() == 0 {
+    if bytes.is_empty() {
         return buffers::put(output, from, b"-");
     }
     put_digits(output, from, bytes)
@@ -20,32 +21,20 @@ fn put_digits(output: &mut [u8], from: usize, bytes: &[u8]) -> usize
     requires { from + 2 * length bytes.now ≤ length output.old }
     ensures { (result ≡ from + 2 * length bytes.now) × (output.new ≡ sets output.old from (digits_of bytes.now)) }
 {
-    let n = 2 * bytes.len();
-    for k in 0..n {
-        let place = from + k;
-        output[place] = digit_at(bytes, k);
+    for (i, byte) in bytes.iter().enumerate() {
+        let high = from + 2 * i;
+        let low = high + 1;
+        output[high] = hex_digit(*byte / 16);
+        output[low] = hex_digit(*byte % 16);
     }
-    from + n
+    from + 2 * bytes.len()
 }
 
-// Digit k of the bytes.
-fn digit_at(bytes: &[u8], k: usize) -> u8
-    requires { k < 2 * length bytes.now }
-    ensures { result ≡ digit_at bytes.now k }
-{
-    let i = k / 2;
-    if k % 2 == 0 {
-        return hex_digit(bytes[i] / 16);
-    }
-    hex_digit(bytes[i] % 16)
-}
-
+// The library's from_digit gives a char, and an Option of it.
+#[tactic(auto, unfolding(crate::specs::Printed::hex_digit))]
 fn hex_digit(d: u8) -> u8
     requires { d < 16 }
     ensures { result ≡ hex_digit d }
 {
-    if d < 10 {
-        return b'0' + d;
-    }
-    87 + d
+    if d < 10 { b'0' + d } else { 87 + d }
 }

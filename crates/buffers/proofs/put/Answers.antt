@@ -6,14 +6,8 @@ use Rattle.buffers.proofs.put.Goals as goal
 pub loop-i-init : goal.loop-i-init
 loop-i-init c = placed-none _ _ _ _
 
-pub bounds-output-place : goal.bounds-output-place
-bounds-output-place c = rw c.loop-i.invariant.len (omega arith)
-
 pub loop-i-preserved : goal.loop-i-preserved
 loop-i-preserved c = placed-more _ c.loop-i.invariant (omega arith) (omega arith) (λ k less same. omega arith) refl
-
-pub shape_of-output : goal.shape_of-output
-shape_of-output c = c.loop-i.invariant.len
 
 pub returns : goal.returns
 returns c = (refl, copied_all c.args.from c.args.part.now c.loop-i.invariant (omega arith) (omega arith) refl)

@@ -1,37 +1,27 @@
 use mathlib.Core.Path.{sym, ◌∙◌}
-use Prim.Native.Nat.{◌-◌, zero-le}
 use native.Mathlib.Omega.{arith}
-use Rattle.script.proofs.Reading.{number-empty, number-some, number-other, number_more, number-large, number-all}
+use Rattle.script.proofs.Reading.{number-empty, number-some, number-large, number-all}
 use Rattle.script.proofs.read_number.Goals as goal
 
-pub returns-then-word-eq0 : goal.returns-then-word-eq0
-returns-then-word-eq0 c = c.no_number.ensures ∙ number-empty c.args.word.now c.if-word-eq0.true
+pub returns-then-is_empty : goal.returns-then-is_empty
+returns-then-is_empty c = number-empty c.args.word.now (sym c.is_empty.ensures ∙ c.if-is_empty.true)
 
-pub loop-i-init : goal.loop-i-init
-loop-i-init c = (zero-le, number-some c.args.word.now c.if-word-eq0.false, omega arith)
+pub loop-c-init : goal.loop-c-init
+loop-c-init c = (number-some c.args.word.now (sym c.is_empty.ensures ∙ c.if-is_empty.false), omega arith)
 
-pub returns-then-not-is_digit : goal.returns-then-not-is_digit
-returns-then-not-is_digit c = c.no_number-then-not-is_digit.ensures
-    ∙ number-other c.args.word.now c.loop-i.i c.loop-i.x c.loop-i.invariant.1 (omega arith)
-    (sym c.is_digit.ensures ∙ c.if-not-is_digit.true)
+pub returns-in_err-checked_mul : goal.returns-in_err-checked_mul
+returns-in_err-checked_mul c =
+    c.from_residual.ensures
+    ∙ number-large c.args.word.now c.loop-c.c-index c.loop-c.x c.loop-c.invariant.0 c.loop-c-test.true
+    (sym c.is_ascii_digit.ensures.value ∙ c.if-not-is_ascii_digit.false)
+    (omega (arith, c.in_err-checked_mul.ensures))
 
-pub digit_value-d-requires : goal.digit_value-d-requires
-digit_value-d-requires c = sym c.is_digit.ensures ∙ c.if-not-is_digit.false
-
-pub returns-then-d-x : goal.returns-then-d-x
-returns-then-d-x c = c.no_number-then-d-x.ensures
-    ∙ number-large c.args.word.now c.loop-i.i c.loop-i.x c.loop-i.invariant.1 (omega arith)
-    (sym c.is_digit.ensures ∙ c.if-not-is_digit.false)
-    (omega (arith, c.digit_value-d.ensures.0))
-
-pub loop-i-preserved : goal.loop-i-preserved
-loop-i-preserved c = (
-  omega arith,
-  rw c.digit_value-d.ensures.0
-      (number_more c.args.word.now c.loop-i.i c.loop-i.x c.loop-i.invariant.1 (omega arith)
-      (sym c.is_digit.ensures ∙ c.if-not-is_digit.false)),
-  omega arith,
-)
+pub returns-in_err-x : goal.returns-in_err-x
+returns-in_err-x c =
+    c.from_residual-in_err-x.ensures
+    ∙ number-large c.args.word.now c.loop-c.c-index c.loop-c.x c.loop-c.invariant.0 c.loop-c-test.true
+    (sym c.is_ascii_digit.ensures.value ∙ c.if-not-is_ascii_digit.false)
+    (omega (arith, c.in_ok-checked_mul.ensures, c.from.ensures, c.in_err-x.ensures))
 
 pub returns : goal.returns
-returns c = number-all c.args.word.now c.loop-i.i c.loop-i.x c.loop-i.invariant.1 (omega arith) c.loop-i.invariant.2
+returns c = number-all c.args.word.now c.loop-c.c-index c.loop-c.x c.loop-c.invariant.0 (omega arith) c.loop-c.invariant.1

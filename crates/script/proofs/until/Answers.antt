@@ -1,16 +1,28 @@
-use Prim.Native.Nat.{◌-◌, zero-le}
+-- `script::until` meets its contract. Assumes nothing.
+use mathlib.Core.Path.{◌≡◌, refl, sym, ◌∙◌}
+use mathlib.Core.Logic.{◌≢◌}
+use mathlib.Core.List.{List}
+use Prim.Native.Nat.{ℕ}
 use native.Mathlib.Omega.{arith}
-use Rattle.script.proofs.Lines.{before-none, before_here, before_more, before-all}
+use lib.ListN.{length}
+use borrow.Author.Rules.{rules}
+use borrow.Author.Tests.{tests, eq-eqb, ne_eqb}
+use Rattle.std.specs.Option.{unwrap_or}
+use Rattle.std.proofs.lemmas.Iterator.{YieldsList-from_slice, IsFirst-from_position, index_from_first}
+use Rattle.script.specs.Words.{before}
+use Rattle.script.proofs.Lines.{before-le}
 use Rattle.script.proofs.until.Goals as goal
 
-pub loop-i-init : goal.loop-i-init
-loop-i-init c = (zero-le, before-none c.args.mark c.args.s.now)
-
-pub returns-then-s-i : goal.returns-then-s-i
-returns-then-s-i c = (before_here c.args.mark c.args.s.now c.loop-i.i c.loop-i.invariant.1 (omega arith) c.if-s-i.true, omega arith)
-
-pub loop-i-preserved : goal.loop-i-preserved
-loop-i-preserved c = (omega arith, before_more c.args.mark c.args.s.now c.loop-i.i c.loop-i.invariant.1 (omega arith) c.if-s-i.false)
-
 pub returns : goal.returns
-returns c = (before-all c.args.mark c.args.s.now c.loop-i.i c.loop-i.invariant.1 (omega arith), omega arith)
+returns c =
+    let m = c.args.mark in
+    let s = c.args.s.now in
+    let is : length (before m s) ≡ unwrap_or c.position.result (length s) =
+    index_from_first (λ (t : List ℕ). length (before m t)) (λ (x : ℕ). x ≡ m) (λ (x : ℕ). x ≢ m) refl
+    (λ x t e. rw (eq-eqb x m e))
+    (λ x t ne. rw (ne_eqb x m ne) (omega arith))
+    s c.position.result
+    (IsFirst-from_position _ _ _ (λ (x : ℕ). x ≡ m) (λ (x : ℕ). x ≢ m) c.position.ensures.ran (YieldsList-from_slice s cc)
+    (λ x q k. search (rules, tests)) (λ x q k. search (rules, tests))) in
+    let e = c.unwrap_or.ensures ∙ sym is in
+    (e, rw e (before-le m s))

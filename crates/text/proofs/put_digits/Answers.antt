@@ -1,25 +1,16 @@
-use mathlib.Core.Path.{refl}
+use mathlib.Core.Path.{refl, ◌∙◌}
 use native.Mathlib.Omega.{arith}
-use Rattle.loops.proofs.Places.{placed-none, placed-more, stored-all}
+use Rattle.loops.proofs.Places.{stored-all}
 use Rattle.text.specs.Printed.{digits_of}
+use Rattle.text.proofs.Printing.{high-digit, low-digit, two-more}
 use Rattle.text.proofs.put_digits.Goals as goal
 
-pub loop-k-init : goal.loop-k-init
-unfolding digits_of
-loop-k-init c = placed-none _ _ _ _
-
-pub bounds-output-place : goal.bounds-output-place
-unfolding digits_of
-bounds-output-place c = rw c.loop-k.invariant.len (omega arith)
-
-pub loop-k-preserved : goal.loop-k-preserved
-unfolding digits_of
-loop-k-preserved c = placed-more _ c.loop-k.invariant (omega arith) (omega arith) (λ k less same. omega arith) c.digit_at.ensures
-
-pub shape_of-output : goal.shape_of-output
-unfolding digits_of
-shape_of-output c = c.loop-k.invariant.len
+pub loop-i-preserved : goal.loop-i-preserved
+loop-i-preserved c =
+    two-more c.args.from c.loop-i.i _ _ c.loop-i.invariant (omega arith) (omega arith)
+    (c.hex_digit.ensures ∙ high-digit c.args.bytes.now c.loop-i.i)
+    (c.hex_digit-in-loop-i.ensures ∙ low-digit c.args.bytes.now c.loop-i.i)
 
 pub returns : goal.returns
 unfolding digits_of
-returns c = (refl, stored-all c.args.from c.loop-k.invariant (omega arith) (omega arith))
+returns c = (refl, stored-all c.args.from c.loop-i.invariant (omega arith) (omega arith))
