@@ -9,10 +9,12 @@ ghost use Rattle.lsh.specs.Block.{Chain, forwards};
 ghost use Rattle.lsh.specs.Bits.{bytes_of_bits};
 ghost use Rattle.lsh.specs.Padding.{blocks_of};
 ghost use Rattle.lsh.specs.Hash.{final_bytes, digest};
+ghost use Rattle.answers.specs.Refusal.{answer_of};
 ghost use Rattle.limits.specs.Limits.{longest_block, longest_digest};
 ghost use Rattle.receipts.specs.Receipt.{receipt_bytes, receipt};
 ghost use Rattle.receipts.specs.Ending.{end_answer};
 
+use answers::Refusal;
 use limits::LONGEST_BLOCK;
 use runs::Engine;
 
@@ -31,20 +33,21 @@ pub const MOST_BITS: u64 = 8 * limits::LIMIT as u64 + 7;
 // What padding puts after whole bytes: the bit 1, and zeros to the end of its byte.
 pub const PAD: u8 = 0x80;
 
-// The answer by the end of a message and the size of the output.
-pub fn end_answer(last: u8, e: u64, size: usize) -> u32
-    ensures { result ≡ end_answer last e size }
+// The tests of the end of a message and of the size of the output.
+#[tactic(auto, unfolding(receipts::specs::Ending::end_answer, receipts::specs::Receipt::receipt_bytes))]
+pub fn end_answer(last: u8, e: u64, size: usize) -> Result<(), Refusal>
+    ensures { answer_of result ≡ end_answer last e size }
 {
     if 7 < e {
-        return 10;
+        return Err(Refusal::BadExtraBits);
     }
     if low_bits(last, e as u32) != 0 {
-        return 11;
+        return Err(Refusal::BadLastByte);
     }
     if size < RECEIPT {
-        return 12;
+        return Err(Refusal::ShortOutput);
     }
-    0
+    Ok(())
 }
 
 // The low 8 - e bits of a byte.

@@ -1,7 +1,10 @@
-// The record of an order, and what a call on it answers. There are no functions here: specs/ has the definitions of the calls that change an order, and
-// proofs/ their laws.
+// The record of an order, and what a call on it answers. specs/ has the definitions of the calls that change an order, and proofs/ their laws.
 #![tactic(auto)]
 
+ghost use Rattle.std.specs.Prelude.{◌≡◌};
+ghost use Rattle.orders.specs.Step.{outcome};
+
+use answers::Refusal;
 use limits::LONGEST_BLOCK;
 
 // What is kept of an order between calls: the word size, the digest length in bits, how many bytes there were, the chain after
@@ -28,6 +31,13 @@ pub struct Split {
     pub blocks: u64,
 }
 
+// What an accepted call gives: how many blocks were run, and the record that follows.
+#[derive(Clone, Copy)]
+pub struct Step {
+    pub count: u64,
+    pub next: Record,
+}
+
 // The answer to a call: its number, how many blocks were run, and the record that follows. C has it as lsh_outcome.
 #[repr(C)]
 #[derive(Clone, Copy)]
@@ -35,4 +45,25 @@ pub struct Outcome {
     pub number: u32,
     pub count: u64,
     pub next: Record,
+}
+
+impl Outcome {
+    // What C gets of a call on the record r.
+    #[tactic(auto, unfolding(crate::specs::Record::refused))]
+    pub fn of(r: Record, answer: Result<Step, Refusal>) -> Outcome
+        ensures { result ≡ outcome r answer }
+    {
+        match answer {
+            Ok(step) => Outcome {
+                number: 0,
+                count: step.count,
+                next: step.next,
+            },
+            Err(refusal) => Outcome {
+                number: refusal.into(),
+                count: 0,
+                next: r,
+            },
+        }
+    }
 }

@@ -1,35 +1,37 @@
 // The record of an order, and the call Open.
 #![tactic(auto)]
 
-ghost use Rattle.std.specs.Prelude.{◌≡◌, true, ◌+◌, ◌^◌};
+ghost use Rattle.std.specs.Prelude.{◌≡◌, true, ◌^◌, Ok};
 ghost use Rattle.lsh.specs.WordSize.{is_word_size};
 ghost use Rattle.limits.specs.Limits.{is_digest_length};
 ghost use Rattle.lists.specs.Lists.{all_below, all_zero};
 ghost use Rattle.orders.specs.Split.{not_begun, none_begun, one_begun, split_sound};
-ghost use Rattle.orders.specs.Record.{held_length, sound, zeros, is_begun, stepped, refused};
+ghost use Rattle.answers.specs.Refusal.{answer_of};
+ghost use Rattle.orders.specs.Record.{held_length, sound, zeros, is_begun, stepped};
+ghost use Rattle.orders.specs.Step.{outcome};
 ghost use Rattle.orders.specs.Open.{opened, open_call};
 ghost use Rattle.orders.specs.Turn.{turn_answer};
 
+use answers::Refusal;
 use limits::LONGEST_BLOCK;
-use orders::{Outcome, Record, Split};
+use orders::{Record, Split, Step};
 use runs::Engine;
 
 // The record of a new order.
-pub fn open(engine: Engine, w: u64, n: u64) -> Outcome
-    ensures { result ≡ open_call w n }
+#[tactic(auto, unfolding(orders::specs::Open::open_call))]
+pub fn open(engine: Engine, w: u64, n: u64) -> Result<Step, Refusal>
+    ensures { outcome zeros result ≡ open_call w n }
 {
     if !runs::is_word_size(w) {
-        return refused(1, no_record());
+        return Err(Refusal::BadWordSize);
     }
     if !runs::is_digest_length(w, n) {
-        return refused(2, no_record());
+        return Err(Refusal::BadDigestLength);
     }
-    let next = opened(engine, w, n);
-    Outcome {
-        number: 0,
+    Ok(Step {
         count: 0,
-        next: next,
-    }
+        next: opened(engine, w, n),
+    })
 }
 
 // The record of an order without bytes.
@@ -50,26 +52,14 @@ pub fn opened(engine: Engine, w: u64, n: u64) -> Record
     }
 }
 
-// The answer to a refused call.
-pub fn refused(number: u32, r: Record) -> Outcome
-    ensures { result ≡ refused number r }
+// What an accepted step of a split rewind gives: the same record, but for how far the rewind is. No block is counted.
+#[tactic(auto, unfolding(orders::specs::Record::stepped, orders::specs::Record::with_split))]
+pub fn stepped(r: Record, split: Split) -> Step
+    ensures { outcome r (Ok result) ≡ stepped r split }
 {
-    Outcome {
-        number: number,
+    Step {
         count: 0,
-        next: r,
-    }
-}
-
-// The answer to an accepted step of a split rewind: the same record, but for how far the rewind is. No block is counted.
-pub fn stepped(mut r: Record, s: Split) -> Outcome
-    ensures { result ≡ stepped r s }
-{
-    r.split = s;
-    Outcome {
-        number: 0,
-        count: 0,
-        next: r,
+        next: Record { split, ..r },
     }
 }
 
@@ -88,17 +78,18 @@ pub fn no_record() -> Record
     }
 }
 
-// The answer of the tests that every call makes which changes an order, where out says whether it is out of turn.
-pub fn turn(r: Record, out: bool) -> u32
-    ensures { result ≡ turn_answer r out }
+// The tests that every call makes which changes an order, where out says whether it is out of turn.
+#[tactic(auto, unfolding(orders::specs::Turn::turn_answer))]
+pub fn turn(r: Record, out: bool) -> Result<(), Refusal>
+    ensures { answer_of result ≡ turn_answer r out }
 {
     if !is_sound(r) {
-        return 3;
+        return Err(Refusal::UnsoundRecord);
     }
     if out {
-        return 17;
+        return Err(Refusal::OutOfTurn);
     }
-    0
+    Ok(())
 }
 
 // What a record has of a split rewind while none is begun.
