@@ -7,7 +7,7 @@ ghost use Rattle.std.specs.Prelude.{◌+◌, ◌-◌, ◌≤◌};
 ghost use Rattle.receipts.specs.Receipt.{receipt_bytes, digest_place, length_place};
 
 use finalization::{DIGEST, LENGTH, RECEIPT};
-use orders::Record;
+use orders::{Outcome, Record};
 use runs::Engine;
 
 // The bytes of the longest digest, which is also the longest tag.
@@ -59,8 +59,7 @@ pub fn of_file(rt: &HostRuntime, k: Kind, key: &[u8], name: &[u8]) -> Fingerprin
 // The record to which a file is appended.
 fn started(engine: Engine, w: u64, n: u64, key: &[u8]) -> Record {
     if key.len() == 0 {
-        let o = record::open(engine, w, n);
-        return o.next;
+        return Outcome::of(record::no_record(), record::open(engine, w, n)).next;
     }
     let o = tag::start(engine, w, n, key);
     o.next
@@ -84,7 +83,7 @@ fn of_record(engine: Engine, r: Record, digest_alone: bool) -> Fingerprint
     ensures { (result.from ≤ result.to) × (result.to ≤ receipt_bytes) }
 {
     let mut receipt = [0u8; RECEIPT];
-    close::close(engine, r, 0, 0, &mut receipt);
+    let _ = close::close(engine, r, 0, 0, &mut receipt);
     if digest_alone {
         return shown(
             receipt,

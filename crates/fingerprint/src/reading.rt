@@ -1,5 +1,5 @@
 // Files read in chunks, and what they hold appended to a record.
-use orders::Record;
+use orders::{Outcome, Record};
 use program::files::Source;
 use program::{files, messages};
 use runs::Engine;
@@ -87,7 +87,7 @@ fn append(rt: &HostRuntime, engine: Engine, name: &[u8], r: Record, piece: &[u8]
     if piece.len() == 0 {
         return so_far(true, false, r);
     }
-    let o = append::append(engine, r, piece);
+    let o = Outcome::of(r, append::append(engine, r, piece));
     if o.number != 0 {
         messages::say(
             rt,

@@ -32,63 +32,63 @@ use receipts::{Counts, Sameness};
 pub extern "C" fn lsh_block_forward(engine: u64, w: u64, chain: &mut [u8], block: &[u8]) -> u32
     ensures { (result ≡ block_answer w (length chain.old) (length block.now)) × (chain.new ≡ forward_bytes w chain.old block.now) }
 {
-    block_call::forward(runs::engine_of(engine), w, chain, block)
+    answers::number_of(block_call::forward(runs::engine_of(engine), w, chain, block))
 }
 
 #[unsafe(no_mangle)]
 pub extern "C" fn lsh_block_backward(engine: u64, w: u64, chain: &mut [u8], block: &[u8]) -> u32
     ensures { (result ≡ block_answer w (length chain.old) (length block.now)) × (chain.new ≡ backward_bytes w chain.old block.now) }
 {
-    block_call::backward(runs::engine_of(engine), w, chain, block)
+    answers::number_of(block_call::backward(runs::engine_of(engine), w, chain, block))
 }
 
 #[unsafe(no_mangle)]
 pub extern "C" fn lsh_open(engine: u64, w: u64, n: u64) -> Outcome
     ensures { result ≡ open_call w n }
 {
-    record::open(runs::engine_of(engine), w, n)
+    Outcome::of(record::no_record(), record::open(runs::engine_of(engine), w, n))
 }
 
 #[unsafe(no_mangle)]
 pub extern "C" fn lsh_append(engine: u64, r: Record, piece: &[u8]) -> Outcome
     ensures { result ≡ append_call r piece.now }
 {
-    append::append(runs::engine_of(engine), r, piece)
+    Outcome::of(r, append::append(runs::engine_of(engine), r, piece))
 }
 
 #[unsafe(no_mangle)]
 pub extern "C" fn lsh_rewind(engine: u64, r: Record, keep: u64, h: &[u8]) -> Outcome
     ensures { result ≡ rewind_call r keep h.now }
 {
-    rewind::rewind(runs::engine_of(engine), r, keep, h)
+    Outcome::of(r, rewind::rewind(runs::engine_of(engine), r, keep, h))
 }
 
 #[unsafe(no_mangle)]
 pub extern "C" fn lsh_begin(r: Record, bytes: &[u8]) -> Outcome
     ensures { result ≡ begin_call r bytes.now }
 {
-    split_rewind::begin(r, bytes)
+    Outcome::of(r, split_rewind::begin(r, bytes))
 }
 
 #[unsafe(no_mangle)]
 pub extern "C" fn lsh_hand_back(engine: u64, r: Record, block: &[u8]) -> Outcome
     ensures { result ≡ hand_back_call r block.now }
 {
-    split_rewind::hand_back(runs::engine_of(engine), r, block)
+    Outcome::of(r, split_rewind::hand_back(runs::engine_of(engine), r, block))
 }
 
 #[unsafe(no_mangle)]
 pub extern "C" fn lsh_end(engine: u64, r: Record, keep: u64) -> Outcome
     ensures { result ≡ end_call r keep }
 {
-    split_rewind::end(runs::engine_of(engine), r, keep)
+    Outcome::of(r, split_rewind::end(runs::engine_of(engine), r, keep))
 }
 
 #[unsafe(no_mangle)]
 pub extern "C" fn lsh_abandon(r: Record) -> Outcome
     ensures { result ≡ abandon_call r }
 {
-    split_rewind::abandon(r)
+    Outcome::of(r, split_rewind::abandon(r))
 }
 
 #[unsafe(no_mangle)]
@@ -122,7 +122,7 @@ pub extern "C" fn lsh_end_roll(engine: u64, r: Record, keep: u64, roll: &mut [u8
 pub extern "C" fn lsh_close(engine: u64, r: Record, last: u8, e: u64, output: &mut [u8]) -> u32
     ensures { (result ≡ close_answer r last e (length output.old)) × (output.new ≡ close_output r last e output.old) }
 {
-    close::close(runs::engine_of(engine), r, last, e, output)
+    answers::number_of(close::close(runs::engine_of(engine), r, last, e, output))
 }
 
 #[unsafe(no_mangle)]
@@ -137,7 +137,7 @@ pub extern "C" fn lsh_whole(
 ) -> u32
     ensures { (result ≡ whole_answer w n (length message.now) last e (length output.old)) × (output.new ≡ whole_output w n message.now last e output.old) }
 {
-    whole::whole(runs::engine_of(engine), w, n, message, last, e, output)
+    answers::number_of(whole::whole(runs::engine_of(engine), w, n, message, last, e, output))
 }
 
 #[unsafe(no_mangle)]

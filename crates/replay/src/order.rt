@@ -36,21 +36,21 @@ pub fn answer(kind: u64, v: [u64; WORDS], s: State, given: &[u8]) -> Reply {
 fn call(engine: Engine, kind: u64, v: [u64; WORDS], r: Record, given: &[u8]) -> Outcome {
     match kind {
         // open W N
-        OPEN => record::open(engine, v[0], v[1]),
+        OPEN => Outcome::of(record::no_record(), record::open(engine, v[0], v[1])),
         // append BYTES
-        APPEND => append::append(engine, r, words::part(given, 0, v[0])),
+        APPEND => Outcome::of(r, append::append(engine, r, words::part(given, 0, v[0]))),
         // rewind KEEP BYTES
-        REWIND => rewind::rewind(engine, r, v[0], words::part(given, 0, v[1])),
+        REWIND => Outcome::of(r, rewind::rewind(engine, r, v[0], words::part(given, 0, v[1]))),
         // begin BYTES
-        BEGIN => split_rewind::begin(r, words::part(given, 0, v[0])),
+        BEGIN => Outcome::of(r, split_rewind::begin(r, words::part(given, 0, v[0]))),
         // handback BYTES
-        HANDBACK => split_rewind::hand_back(engine, r, words::part(given, 0, v[0])),
+        HANDBACK => Outcome::of(r, split_rewind::hand_back(engine, r, words::part(given, 0, v[0]))),
         // end KEEP
-        END => split_rewind::end(engine, r, v[0]),
+        END => Outcome::of(r, split_rewind::end(engine, r, v[0])),
         // abandon
-        ABANDON => split_rewind::abandon(r),
+        ABANDON => Outcome::of(r, split_rewind::abandon(r)),
         // tagstart W N KEY
         TAGSTART => tag::start(engine, v[0], v[1], words::part(given, 0, v[2])),
-        _ => record::refused(0, r),
+        _ => Outcome { number: 0, count: 0, next: r },
     }
 }

@@ -2,6 +2,7 @@
 use crate::reply::Reply;
 use crate::words::WORDS;
 use crate::{State, reply, words};
+use answers::number_of;
 use orders::Record;
 use runs::Engine;
 
@@ -36,9 +37,9 @@ fn call(
 ) -> u32 {
     match kind {
         // close LAST E SIZE
-        CLOSE => close::close(engine, r, (v[0] % 256) as u8, v[1], output),
+        CLOSE => number_of(close::close(engine, r, (v[0] % 256) as u8, v[1], output)),
         // whole W N BYTES LAST E SIZE
-        WHOLE => whole::whole(
+        WHOLE => number_of(whole::whole(
             engine,
             v[0],
             v[1],
@@ -46,11 +47,11 @@ fn call(
             (v[3] % 256) as u8,
             v[4],
             output,
-        ),
+        )),
         // forward W BYTES BYTES
-        FORWARD => block_call::forward(engine, v[0], output, words::part(given, 0, v[2])),
+        FORWARD => number_of(block_call::forward(engine, v[0], output, words::part(given, 0, v[2]))),
         // backward W BYTES BYTES
-        BACKWARD => block_call::backward(engine, v[0], output, words::part(given, 0, v[2])),
+        BACKWARD => number_of(block_call::backward(engine, v[0], output, words::part(given, 0, v[2]))),
         // tag W N KEY MESSAGE SIZE
         TAG => tag::tag(
             engine,

@@ -87,6 +87,6 @@ fn call(
         REWINDROLL => rewind_roll::rewind_roll(engine, r, v[0], words::part(given, 0, v[1]), roll),
         // endroll KEEP
         ENDROLL => rewind_roll::end_roll(engine, r, v[0], roll),
-        _ => record::refused(0, r),
+        _ => Outcome { number: 0, count: 0, next: r },
     }
 }
