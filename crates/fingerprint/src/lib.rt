@@ -61,8 +61,7 @@ fn started(engine: Engine, w: u64, n: u64, key: &[u8]) -> Record {
     if key.len() == 0 {
         return Outcome::of(record::no_record(), record::open(engine, w, n)).next;
     }
-    let o = tag::start(engine, w, n, key);
-    o.next
+    Outcome::of(record::no_record(), tag::start(engine, w, n, key)).next
 }
 
 fn none() -> Fingerprint
@@ -100,7 +99,7 @@ fn tagged(engine: Engine, r: Record, bits: u64, key: &[u8]) -> Fingerprint
     ensures { (result.from ≤ result.to) × (result.to ≤ receipt_bytes) }
 {
     let mut tag = [0u8; RECEIPT];
-    tag::finish(engine, r, key, &mut tag);
+    let _ = tag::finish(engine, r, key, &mut tag);
     shown(tag, 0, digest_bytes(r.n), bits)
 }
 

@@ -46,7 +46,10 @@ pub extern "C" fn lsh_block_backward(engine: u64, w: u64, chain: &mut [u8], bloc
 pub extern "C" fn lsh_open(engine: u64, w: u64, n: u64) -> Outcome
     ensures { result ≡ open_call w n }
 {
-    Outcome::of(record::no_record(), record::open(runs::engine_of(engine), w, n))
+    Outcome::of(
+        record::no_record(),
+        record::open(runs::engine_of(engine), w, n),
+    )
 }
 
 #[unsafe(no_mangle)]
@@ -74,7 +77,10 @@ pub extern "C" fn lsh_begin(r: Record, bytes: &[u8]) -> Outcome
 pub extern "C" fn lsh_hand_back(engine: u64, r: Record, block: &[u8]) -> Outcome
     ensures { result ≡ hand_back_call r block.now }
 {
-    Outcome::of(r, split_rewind::hand_back(runs::engine_of(engine), r, block))
+    Outcome::of(
+        r,
+        split_rewind::hand_back(runs::engine_of(engine), r, block),
+    )
 }
 
 #[unsafe(no_mangle)]
@@ -95,7 +101,10 @@ pub extern "C" fn lsh_abandon(r: Record) -> Outcome
 pub extern "C" fn lsh_append_roll(engine: u64, r: Record, piece: &[u8], roll: &mut [u8]) -> Outcome
     ensures { (result ≡ append_roll_call r piece.now roll.old) × (roll.new ≡ appended_roll r piece.now roll.old) × FreeChoice free_slot }
 {
-    append_roll::append_roll(runs::engine_of(engine), r, piece, roll)
+    Outcome::of(
+        r,
+        append_roll::append_roll(runs::engine_of(engine), r, piece, roll),
+    )
 }
 
 #[unsafe(no_mangle)]
@@ -108,14 +117,20 @@ pub extern "C" fn lsh_rewind_roll(
 ) -> Outcome
     ensures { (result ≡ rewind_roll_call r keep h.now roll.old) × (roll.new ≡ rewound_roll r keep h.now roll.old) }
 {
-    rewind_roll::rewind_roll(runs::engine_of(engine), r, keep, h, roll)
+    Outcome::of(
+        r,
+        rewind_roll::rewind_roll(runs::engine_of(engine), r, keep, h, roll),
+    )
 }
 
 #[unsafe(no_mangle)]
 pub extern "C" fn lsh_end_roll(engine: u64, r: Record, keep: u64, roll: &mut [u8]) -> Outcome
     ensures { (result ≡ end_roll_call r keep roll.old) × (roll.new ≡ ended_roll r keep roll.old) }
 {
-    rewind_roll::end_roll(runs::engine_of(engine), r, keep, roll)
+    Outcome::of(
+        r,
+        rewind_roll::end_roll(runs::engine_of(engine), r, keep, roll),
+    )
 }
 
 #[unsafe(no_mangle)]
@@ -144,14 +159,14 @@ pub extern "C" fn lsh_whole(
 pub extern "C" fn lsh_same(a: &[u8], b: &[u8]) -> Sameness
     ensures { result ≡ same_call a.now b.now }
 {
-    same::same(a, b)
+    Sameness::from(same::same(a, b))
 }
 
 #[unsafe(no_mangle)]
 pub extern "C" fn lsh_tally(list: &[u8]) -> Counts
     ensures { result ≡ tally_call list.now }
 {
-    tally::tally(list)
+    Counts::from(tally::tally(list))
 }
 
 #[unsafe(no_mangle)]
@@ -165,21 +180,24 @@ pub extern "C" fn lsh_tag(
 ) -> u32
     ensures { (result ≡ tag_answer w n (length key.now) (length message.now) (length output.old)) × (output.new ≡ tag_output w n key.now message.now output.old) }
 {
-    tag::tag(runs::engine_of(engine), w, n, key, message, output)
+    answers::number_of(tag::tag(runs::engine_of(engine), w, n, key, message, output))
 }
 
 #[unsafe(no_mangle)]
 pub extern "C" fn lsh_tag_start(engine: u64, w: u64, n: u64, key: &[u8]) -> Outcome
     ensures { result ≡ start_call w n key.now }
 {
-    tag::start(runs::engine_of(engine), w, n, key)
+    Outcome::of(
+        record::no_record(),
+        tag::start(runs::engine_of(engine), w, n, key),
+    )
 }
 
 #[unsafe(no_mangle)]
 pub extern "C" fn lsh_tag_finish(engine: u64, r: Record, key: &[u8], output: &mut [u8]) -> u32
     ensures { (result ≡ finish_answer r (length key.now) (length output.old)) × (output.new ≡ finish_output r key.now output.old) }
 {
-    tag::finish(runs::engine_of(engine), r, key, output)
+    answers::number_of(tag::finish(runs::engine_of(engine), r, key, output))
 }
 
 #[unsafe(no_mangle)]
@@ -193,5 +211,5 @@ pub extern "C" fn lsh_tag_check(
 ) -> Sameness
     ensures { result ≡ check_call w n key.now message.now tag.now }
 {
-    tag::check(runs::engine_of(engine), w, n, key, message, tag)
+    Sameness::from(tag::check(runs::engine_of(engine), w, n, key, message, tag))
 }

@@ -151,8 +151,7 @@ fn is_kind(a: Asked, listed: [u8; RECEIPT], count: usize) -> bool {
     if !has_receipts(a) {
         return count == fingerprint::digest_bytes(a.n);
     }
-    let s = same::same(&listed, &listed);
-    (count == RECEIPT) & (s.number == 0)
+    (count == RECEIPT) & same::same(&listed, &listed).is_ok()
 }
 
 // Whether receipts are asked for, and not digests or tags.
@@ -220,8 +219,7 @@ fn agree(
     requires { (from ≤ to) × (to ≤ receipt_bytes) }
 {
     if are_receipts {
-        let s = same::same(&listed, &bytes);
-        return s.same;
+        return same::same(&listed, &bytes).unwrap_or(false);
     }
     let size = to - from;
     buffers::equal_bytes(&listed[0..size], &bytes[from..to])

@@ -49,20 +49,30 @@ fn call(
             output,
         )),
         // forward W BYTES BYTES
-        FORWARD => number_of(block_call::forward(engine, v[0], output, words::part(given, 0, v[2]))),
+        FORWARD => number_of(block_call::forward(
+            engine,
+            v[0],
+            output,
+            words::part(given, 0, v[2]),
+        )),
         // backward W BYTES BYTES
-        BACKWARD => number_of(block_call::backward(engine, v[0], output, words::part(given, 0, v[2]))),
+        BACKWARD => number_of(block_call::backward(
+            engine,
+            v[0],
+            output,
+            words::part(given, 0, v[2]),
+        )),
         // tag W N KEY MESSAGE SIZE
-        TAG => tag::tag(
+        TAG => number_of(tag::tag(
             engine,
             v[0],
             v[1],
             words::part(given, 0, v[2]),
             words::part(given, v[2], v[3]),
             output,
-        ),
+        )),
         // tagfinish KEY SIZE
-        TAGFINISH => tag::finish(engine, r, words::part(given, 0, v[0]), output),
+        TAGFINISH => number_of(tag::finish(engine, r, words::part(given, 0, v[0]), output)),
         _ => 0,
     }
 }
