@@ -7,7 +7,7 @@ ghost use Rattle.std.specs.Prelude.{◌+◌, ◌-◌, ◌≤◌};
 ghost use Rattle.receipts.specs.Receipt.{receipt_bytes, digest_place, length_place};
 
 use finalization::{DIGEST, LENGTH, RECEIPT};
-use orders::{Outcome, Record};
+use orders::Record;
 use runs::Engine;
 
 // The bytes of the longest digest, which is also the longest tag.
@@ -59,10 +59,15 @@ pub fn of_file(rt: &HostRuntime, k: Kind, key: &[u8], name: &[u8]) -> Fingerprin
 // The record to which a file is appended.
 fn started(engine: Engine, w: u64, n: u64, key: &[u8]) -> Record {
     if key.len() == 0 {
-        return Outcome::of(record::no_record(), record::open(engine, w, n)).next;
+        return match record::open(engine, w, n) {
+            Ok(step) => step.next,
+            Err(_) => record::no_record(),
+        };
     }
-    let o = tag::start(engine, w, n, key);
-    o.next
+    match tag::start(engine, w, n, key) {
+        Ok(step) => step.next,
+        Err(_) => record::no_record(),
+    }
 }
 
 fn none() -> Fingerprint
@@ -100,7 +105,7 @@ fn tagged(engine: Engine, r: Record, bits: u64, key: &[u8]) -> Fingerprint
     ensures { (result.from ≤ result.to) × (result.to ≤ receipt_bytes) }
 {
     let mut tag = [0u8; RECEIPT];
-    tag::finish(engine, r, key, &mut tag);
+    let _ = tag::finish(engine, r, key, &mut tag);
     shown(tag, 0, digest_bytes(r.n), bits)
 }
 
