@@ -1,9 +1,6 @@
-// Why a call refuses, and its number for C. specs/ says which of two answers a call gives and what it leaves in the output that it is lent, proofs/ has their
-// laws, and what an accepted call says of its tests.
+// Why a call refuses. There are no functions here: specs/ gives the refusals their numbers, and says which of two answers a call gives and what it leaves in the
+// output that it is lent; proofs/ has their laws, and what an accepted call says of its tests.
 #![tactic(auto)]
-
-ghost use Rattle.std.specs.Prelude.{◌≡◌};
-ghost use Rattle.answers.specs.Refusal.{number, answer_of};
 
 // Why a call refuses. include/lsh_kiosk.h has the same names and numbers, and says in `lsh_meaning` what each means.
 #[derive(Clone, Copy, Debug, PartialEq, Eq)]
@@ -26,23 +23,4 @@ pub enum Refusal {
     FullRoll = 16,
     OutOfTurn = 17,
     NoWholeBytes = 18,
-}
-
-// The number that C gets.
-impl From<Refusal> for u32 {
-    ghost from_gives = { λ refusal n. n ≡ number refusal };
-
-    fn from(refusal: Refusal) -> u32 {
-        refusal as u32
-    }
-}
-
-// The number that C gets of a call that answers and gives nothing besides: 0 where it is accepted.
-pub fn number_of(answer: Result<(), Refusal>) -> u32
-    ensures { result ≡ answer_of answer }
-{
-    match answer {
-        Ok(()) => 0,
-        Err(refusal) => refusal.into(),
-    }
 }

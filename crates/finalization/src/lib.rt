@@ -72,9 +72,8 @@ pub fn message_chain(engine: Engine, w: u64, t: [u64; 16], message: &[u8], pad: 
     ensures { result ≡ forwards (size_of w) (blocks_of (size_of w) (message.now ++ pad ∷ replicate (block_bytes (size_of w) - 1 - length message.now % block_bytes (size_of w)) 0)) t }
 {
     let run = runs::forward(engine, w, t, message);
-    let c = run.chain;
     let whole = run.count * runs::block_bytes(w);
-    last_chain(engine, w, c, &message[whole..], pad)
+    last_chain(engine, w, run.chain, &message[whole..], pad)
 }
 
 // The chain after the last block, of the bytes that are left over and the padding.
@@ -84,8 +83,7 @@ pub fn last_chain(engine: Engine, w: u64, t: [u64; 16], rest: &[u8], pad: u8) ->
 {
     let size = runs::block_bytes(w);
     let block = last_block(rest, pad);
-    let run = runs::forward(engine, w, t, &block[..size]);
-    run.chain
+    runs::forward(engine, w, t, &block[..size]).chain
 }
 
 fn last_block(rest: &[u8], pad: u8) -> [u8; LONGEST_BLOCK]
@@ -93,8 +91,7 @@ fn last_block(rest: &[u8], pad: u8) -> [u8; LONGEST_BLOCK]
     ensures { result ≡ rest.now ++ pad ∷ replicate (longest_block - 1 - length rest.now) 0 }
 {
     let mut b = runs::zero_filled(rest);
-    let n = rest.len();
-    b[n] = pad;
+    b[rest.len()] = pad;
     b
 }
 
@@ -105,8 +102,7 @@ pub fn write_receipt(w: u64, n: u64, t: [u64; 16], bits: u64, output: &mut [u8])
 {
     let size = ((n + 7) / 8) as usize;
     let bytes = digest_bytes(w, n, t);
-    let end = RECEIPT;
-    buffers::fill(&mut output[..end], 0);
+    output[..RECEIPT].fill(0);
     output[0] = w as u8;
     output[2] = (n % 256) as u8;
     output[3] = (n / 256) as u8;
@@ -121,8 +117,7 @@ pub fn digest_bytes(w: u64, n: u64, t: [u64; 16]) -> [u8; LONGEST_BLOCK]
 {
     let mut s = final_bytes(w, t);
     let last = (n / 8) as usize;
-    let x = s[last];
-    s[last] = x - low_bits(x, (n % 8) as u32);
+    s[last] -= low_bits(s[last], (n % 8) as u32);
     s
 }
 

@@ -7,7 +7,7 @@ ghost use Rattle.std.specs.Prelude.{◌+◌, ◌-◌, ◌≤◌};
 ghost use Rattle.receipts.specs.Receipt.{receipt_bytes, digest_place, length_place};
 
 use finalization::{DIGEST, LENGTH, RECEIPT};
-use orders::{Outcome, Record};
+use orders::Record;
 use runs::Engine;
 
 // The bytes of the longest digest, which is also the longest tag.
@@ -59,9 +59,15 @@ pub fn of_file(rt: &HostRuntime, k: Kind, key: &[u8], name: &[u8]) -> Fingerprin
 // The record to which a file is appended.
 fn started(engine: Engine, w: u64, n: u64, key: &[u8]) -> Record {
     if key.len() == 0 {
-        return Outcome::of(record::no_record(), record::open(engine, w, n)).next;
+        return match record::open(engine, w, n) {
+            Ok(step) => step.next,
+            Err(_) => record::no_record(),
+        };
     }
-    Outcome::of(record::no_record(), tag::start(engine, w, n, key)).next
+    match tag::start(engine, w, n, key) {
+        Ok(step) => step.next,
+        Err(_) => record::no_record(),
+    }
 }
 
 fn none() -> Fingerprint

@@ -1,10 +1,7 @@
-// The record of an order, and what a call on it answers. specs/ has the definitions of the calls that change an order, and proofs/ their laws.
+// The record of an order, and what a call on it answers. There are no functions here: specs/ has the definitions of the calls that change an order, and
+// proofs/ their laws.
 #![tactic(auto)]
 
-ghost use Rattle.std.specs.Prelude.{◌≡◌};
-ghost use Rattle.orders.specs.Step.{outcome};
-
-use answers::Refusal;
 use limits::LONGEST_BLOCK;
 
 // What is kept of an order between calls: the word size, the digest length in bits, how many bytes there were, the chain after
@@ -45,25 +42,4 @@ pub struct Outcome {
     pub number: u32,
     pub count: u64,
     pub next: Record,
-}
-
-impl Outcome {
-    // What C gets of a call on the record r.
-    #[tactic(auto, unfolding(crate::specs::Record::refused))]
-    pub fn of(r: Record, answer: Result<Step, Refusal>) -> Outcome
-        ensures { result ≡ outcome r answer }
-    {
-        match answer {
-            Ok(step) => Outcome {
-                number: 0,
-                count: step.count,
-                next: step.next,
-            },
-            Err(refusal) => Outcome {
-                number: refusal.into(),
-                count: 0,
-                next: r,
-            },
-        }
-    }
 }

@@ -151,7 +151,8 @@ fn is_kind(a: Asked, listed: [u8; RECEIPT], count: usize) -> bool {
     if !has_receipts(a) {
         return count == fingerprint::digest_bytes(a.n);
     }
-    (count == RECEIPT) & same::same(&listed, &listed).is_ok()
+    let s = numbered::sameness(same::same(&listed, &listed));
+    (count == RECEIPT) & (s.number == 0)
 }
 
 // Whether receipts are asked for, and not digests or tags.
@@ -219,7 +220,8 @@ fn agree(
     requires { (from ≤ to) × (to ≤ receipt_bytes) }
 {
     if are_receipts {
-        return same::same(&listed, &bytes).unwrap_or(false);
+        let s = numbered::sameness(same::same(&listed, &bytes));
+        return s.same;
     }
     let size = to - from;
     buffers::equal_bytes(&listed[0..size], &bytes[from..to])

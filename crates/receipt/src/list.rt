@@ -6,7 +6,6 @@ ghost use Rattle.receipt.specs.Sizes.{list_bytes};
 use decimal::DIGITS;
 use finalization::RECEIPT;
 use program::output;
-use receipts::Counts;
 
 // The bytes of the most receipts that a tally takes.
 const LIST: usize = tally::MOST_RECEIPTS * RECEIPT;
@@ -46,7 +45,7 @@ pub fn print_tally(rt: &HostRuntime, list: &[u8], count: usize) -> bool
         return false;
     }
     let end = RECEIPT * count;
-    let t = Counts::from(tally::tally(&list[0..end]));
+    let t = numbered::counts(tally::tally(&list[0..end]));
     print_counts(rt, t.firsts, t.reprints, t.blanks)
 }
 

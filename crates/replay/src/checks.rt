@@ -2,7 +2,7 @@
 use crate::reply::Reply;
 use crate::words::WORDS;
 use crate::{State, reply, words};
-use receipts::{Counts, Sameness};
+use receipts::Sameness;
 use runs::Engine;
 
 // The first digit of the kinds of these lines in the table of calls.rt, and the kinds.
@@ -31,12 +31,12 @@ fn truth(kind: u64, v: [u64; WORDS], s: State, given: &[u8]) -> Reply {
 fn call(engine: Engine, kind: u64, v: [u64; WORDS], given: &[u8]) -> Sameness {
     match kind {
         // same BYTES BYTES
-        SAME => Sameness::from(same::same(
+        SAME => numbered::sameness(same::same(
             words::part(given, 0, v[0]),
             words::part(given, v[0], v[1]),
         )),
         // tagcheck W N KEY MESSAGE TAG
-        TAGCHECK => Sameness::from(tag::check(
+        TAGCHECK => numbered::sameness(tag::check(
             engine,
             v[0],
             v[1],
@@ -53,7 +53,7 @@ fn call(engine: Engine, kind: u64, v: [u64; WORDS], given: &[u8]) -> Sameness {
 
 // tally BYTES: only 14 comes with the place of a malformed receipt.
 fn tally(v: [u64; WORDS], s: State, given: &[u8]) -> Reply {
-    let t = Counts::from(tally::tally(words::part(given, 0, v[0])));
+    let t = numbered::counts(tally::tally(words::part(given, 0, v[0])));
     let number = t.number as u64;
     if number == 14 {
         return reply::numbers(

@@ -36,27 +36,27 @@ pub fn answer(kind: u64, v: [u64; WORDS], s: State, given: &[u8]) -> Reply {
 fn call(engine: Engine, kind: u64, v: [u64; WORDS], r: Record, given: &[u8]) -> Outcome {
     match kind {
         // open W N
-        OPEN => Outcome::of(record::no_record(), record::open(engine, v[0], v[1])),
+        OPEN => numbered::outcome(record::no_record(), record::open(engine, v[0], v[1])),
         // append BYTES
-        APPEND => Outcome::of(r, append::append(engine, r, words::part(given, 0, v[0]))),
+        APPEND => numbered::outcome(r, append::append(engine, r, words::part(given, 0, v[0]))),
         // rewind KEEP BYTES
-        REWIND => Outcome::of(
+        REWIND => numbered::outcome(
             r,
             rewind::rewind(engine, r, v[0], words::part(given, 0, v[1])),
         ),
         // begin BYTES
-        BEGIN => Outcome::of(r, split_rewind::begin(r, words::part(given, 0, v[0]))),
+        BEGIN => numbered::outcome(r, split_rewind::begin(r, words::part(given, 0, v[0]))),
         // handback BYTES
-        HANDBACK => Outcome::of(
+        HANDBACK => numbered::outcome(
             r,
             split_rewind::hand_back(engine, r, words::part(given, 0, v[0])),
         ),
         // end KEEP
-        END => Outcome::of(r, split_rewind::end(engine, r, v[0])),
+        END => numbered::outcome(r, split_rewind::end(engine, r, v[0])),
         // abandon
-        ABANDON => Outcome::of(r, split_rewind::abandon(r)),
+        ABANDON => numbered::outcome(r, split_rewind::abandon(r)),
         // tagstart W N KEY
-        TAGSTART => Outcome::of(
+        TAGSTART => numbered::outcome(
             record::no_record(),
             tag::start(engine, v[0], v[1], words::part(given, 0, v[2])),
         ),

@@ -2,7 +2,6 @@
 use crate::reply::Reply;
 use crate::words::WORDS;
 use crate::{State, reply, words};
-use answers::number_of;
 use orders::Record;
 use runs::Engine;
 
@@ -37,9 +36,9 @@ fn call(
 ) -> u32 {
     match kind {
         // close LAST E SIZE
-        CLOSE => number_of(close::close(engine, r, (v[0] % 256) as u8, v[1], output)),
+        CLOSE => numbered::answer(close::close(engine, r, (v[0] % 256) as u8, v[1], output)),
         // whole W N BYTES LAST E SIZE
-        WHOLE => number_of(whole::whole(
+        WHOLE => numbered::answer(whole::whole(
             engine,
             v[0],
             v[1],
@@ -49,21 +48,21 @@ fn call(
             output,
         )),
         // forward W BYTES BYTES
-        FORWARD => number_of(block_call::forward(
+        FORWARD => numbered::answer(block_call::forward(
             engine,
             v[0],
             output,
             words::part(given, 0, v[2]),
         )),
         // backward W BYTES BYTES
-        BACKWARD => number_of(block_call::backward(
+        BACKWARD => numbered::answer(block_call::backward(
             engine,
             v[0],
             output,
             words::part(given, 0, v[2]),
         )),
         // tag W N KEY MESSAGE SIZE
-        TAG => number_of(tag::tag(
+        TAG => numbered::answer(tag::tag(
             engine,
             v[0],
             v[1],
@@ -72,7 +71,7 @@ fn call(
             output,
         )),
         // tagfinish KEY SIZE
-        TAGFINISH => number_of(tag::finish(engine, r, words::part(given, 0, v[0]), output)),
+        TAGFINISH => numbered::answer(tag::finish(engine, r, words::part(given, 0, v[0]), output)),
         _ => 0,
     }
 }

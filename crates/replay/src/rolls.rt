@@ -82,17 +82,17 @@ fn call(
 ) -> Outcome {
     match kind {
         // appendroll BYTES
-        APPENDROLL => Outcome::of(
+        APPENDROLL => numbered::outcome(
             r,
             append_roll::append_roll(engine, r, words::part(given, 0, v[0]), roll),
         ),
         // rewindroll KEEP BYTES
-        REWINDROLL => Outcome::of(
+        REWINDROLL => numbered::outcome(
             r,
             rewind_roll::rewind_roll(engine, r, v[0], words::part(given, 0, v[1]), roll),
         ),
         // endroll KEEP
-        ENDROLL => Outcome::of(r, rewind_roll::end_roll(engine, r, v[0], roll)),
+        ENDROLL => numbered::outcome(r, rewind_roll::end_roll(engine, r, v[0], roll)),
         _ => Outcome {
             number: 0,
             count: 0,
