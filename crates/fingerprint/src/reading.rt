@@ -87,17 +87,18 @@ fn append(rt: &HostRuntime, engine: Engine, name: &[u8], r: Record, piece: &[u8]
     if piece.len() == 0 {
         return so_far(true, false, r);
     }
-    let o = append::append(engine, r, piece);
-    if o.number != 0 {
-        messages::say(
-            rt,
-            b"receipt",
-            name,
-            b"it has more than 2^40 bytes, the key's block counted if there is a key",
-        );
-        return so_far(false, false, r);
+    match append::append(engine, r, piece) {
+        Ok(step) => so_far(true, true, step.next),
+        Err(_) => {
+            messages::say(
+                rt,
+                b"receipt",
+                name,
+                b"it has more than 2^40 bytes, the key's block counted if there is a key",
+            );
+            so_far(false, false, r)
+        }
     }
-    so_far(true, true, o.next)
 }
 
 fn so_far(good: bool, more: bool, r: Record) -> Reading {

@@ -151,7 +151,7 @@ fn is_kind(a: Asked, listed: [u8; RECEIPT], count: usize) -> bool {
     if !has_receipts(a) {
         return count == fingerprint::digest_bytes(a.n);
     }
-    let s = same::same(&listed, &listed);
+    let s = numbered::sameness(same::same(&listed, &listed));
     (count == RECEIPT) & (s.number == 0)
 }
 
@@ -220,7 +220,7 @@ fn agree(
     requires { (from ≤ to) × (to ≤ receipt_bytes) }
 {
     if are_receipts {
-        let s = same::same(&listed, &bytes);
+        let s = numbered::sameness(same::same(&listed, &bytes));
         return s.same;
     }
     let size = to - from;
