@@ -1,12 +1,10 @@
 use mathlib.Core.Path.{◌≡◌, sym, subst}
 use mathlib.Core.List.{List}
-use Prim.Native.Nat.{ℕ, ◌-◌, ◌≤◌}
-use native.Mathlib.Nat.{div-le_self}
+use Prim.Native.Nat.{ℕ, ◌≤◌}
 use native.Mathlib.Omega.{arith}
 use lib.ListN.{length}
-use lib.Seq.{length-take-le}
 use borrow.Author.Rules.{rules}
-use Rattle.lsh.specs.WordSize.{size_of, block_bytes}
+use Rattle.lsh.specs.WordSize.{size_of}
 use Rattle.lsh.specs.Block.{Chain}
 use Rattle.lsh.proofs.Figures.{amounts}
 use Rattle.lsh.proofs.Blocks.{forwards-chain}
@@ -47,9 +45,6 @@ module _ (c : After-held_length-at) where
   abbrev Z : Start
   Z = (goal.at.After-held_length-at c).Start
 
-  abbrev room-here : ℕ
-  room-here = c.block_bytes-size.result - c.held_length-at.result
-
   place_in : c.held_length-at.result ≤ c.block_bytes-size.result
   place_in = omega (arith, fill-lt (R Z) (long Z))
 
@@ -59,24 +54,9 @@ module _ (c : After-held_length-at) where
 pub overflow_sub-size : goal.overflow_sub-size
 overflow_sub-size c = place_in c
 
-pub split_at-requires : goal.split_at-requires
-split_at-requires c = omega (arith, (Z c).requires.2)
-
 pub with_part-first-requires : goal.with_part-first-requires
 with_part-first-requires c = let a = (goal.at.with_part-first-requires c).After-held_length-at in
     omega (arith, c.split_at.ensures.front_len, place_in a, size-most a)
-
--- the block begun is in the held bytes with the first bytes of the piece
-block_in : (c : After-with_part-first) → c.block_bytes-size.result ≤ length c.with_part-first.result
-block_in c =
-    let l : length c.with_part-first.result ≡ longest_block = search rules in
-    omega (arith, l, size-most (goal.at.After-with_part-first c).After-held_length-at)
-
-pub slice_bounds-first-end : goal.slice_bounds-first-end
-slice_bounds-first-end c = block_in (goal.at.slice_bounds-first-end c).After-with_part-first
-
-pub slice_bounds-forward-end : goal.slice_bounds-forward-end
-slice_bounds-forward-end c = sym (length-take-le _ c.with_part-first.result (block_in (goal.at.slice_bounds-forward-end c).After-with_part-first))
 
 pub forward-begun-requires : goal.forward-begun-requires
 forward-begun-requires c = let z = Z (goal.at.forward-begun-requires c).After-held_length-at in ((is-sound z).word, chain z)
@@ -87,21 +67,6 @@ absorb-count-requires c = let z = Z (goal.at.absorb-count-requires c).After-held
   subst (Chain (size_of (R z).w)) (sym c.forward-begun.ensures.0)
       (forwards-chain (size_of (R z).w) (amounts (R z).w) _ (R z).chain (chain z)),
 )
-
-pub overflow_add-result : goal.overflow_add-result
-unfolding limit
-overflow_add-result c = let z = Z (goal.at.overflow_add-result c).After-held_length-at in
-    let rest : List ℕ = c.split_at.result.1.now in
-    record {
-      fits =
-          omega (
-            arith,
-            c.absorb-count.ensures.1,
-            c.split_at.ensures.back_len,
-            div-le_self (length rest) (block_bytes (size_of (R z).w)),
-            z.requires.1,
-          );
-    }
 
 pub overflow_add-result-2 : goal.overflow_add-result-2
 unfolding limit
