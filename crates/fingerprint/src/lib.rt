@@ -28,6 +28,7 @@ pub struct Fingerprint {
 
 impl Fingerprint {
     // The bytes that are printed.
+    #[tactic(auto, unfolding(receipts::specs::Receipt::receipt_bytes))]
     pub fn shown(&self) -> &[u8]
         ensures { length result.now ≤ receipt_bytes }
     {

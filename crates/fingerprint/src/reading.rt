@@ -56,12 +56,7 @@ fn read_all(
 }
 
 // Reads once, and answers how many bytes came.
-fn read_some(
-    rt: &HostRuntime,
-    source: &mut Source,
-    name: &[u8],
-    chunk: &mut [u8],
-) -> Option<usize>
+fn read_some(rt: &HostRuntime, source: &mut Source, name: &[u8], chunk: &mut [u8]) -> Option<usize>
     ensures { IfSome result (λ n. n ≤ length chunk.new) }
 {
     match source.read(chunk) {

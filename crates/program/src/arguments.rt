@@ -79,9 +79,8 @@ pub fn all<F: Named + Drop, V: Named + Drop>(rt: &HostRuntime) -> Arguments<'_, 
 
 // How many arguments there are, the program's name counted.
 fn count(rt: &HostRuntime) -> usize {
-    let mut room = [0u8; 1];
     for i in 0..usize::MAX {
-        if is_missing(rt, i, &mut room) {
+        if is_missing(rt, i) {
             return i;
         }
     }
@@ -89,8 +88,9 @@ fn count(rt: &HostRuntime) -> usize {
 }
 
 // Whether there is no argument i.
-fn is_missing(rt: &HostRuntime, i: usize, room: &mut [u8]) -> bool {
-    matches!(rt.arg(i, room), Err(FillError::NotPresent))
+pub fn is_missing(rt: &HostRuntime, i: usize) -> bool {
+    let mut room = [0u8; 1];
+    matches!(rt.arg(i, &mut room), Err(FillError::NotPresent))
 }
 
 impl<'a, F: Named + Drop, V: Named + Drop> Iterator for Arguments<'a, F, V> {

@@ -1,6 +1,5 @@
 // Lines that were printed before, checked: whether each is what would be printed of its file now.
 ghost use Rattle.std.specs.Prelude.{◌≡◌, ◌≤◌, length};
-ghost use Rattle.receipts.specs.Receipt.{receipt_bytes};
 ghost use Rattle.program.specs.Sizes.{name_bytes};
 ghost use Rattle.receipt.specs.Sizes.{line_bytes};
 
@@ -51,13 +50,12 @@ pub struct Result {
 // Checks the lines of the list of a name.
 pub fn list(rt: &HostRuntime, mut a: Asked, key: &[u8], name: &[u8]) -> Result {
     match reading::open_file(rt, name, a.input_taken) {
-        Some(mut source) => {
+        Some(source) => {
             a.input_taken = a.input_taken | files::is_standard_input(name);
-            let f = each(rt, a, key, &mut source);
+            let f = each(rt, a, key, source);
             if let Some(e) = f.failed {
                 messages::fail(rt, name, e);
             }
-            files::close(source);
             verdict(rt, f, name)
         }
         None => Result {
@@ -68,18 +66,23 @@ pub fn list(rt: &HostRuntime, mut a: Asked, key: &[u8], name: &[u8]) -> Result {
 }
 
 #[tactic(auto, unfolding(crate::specs::Sizes::line_bytes, receipts::specs::Receipt::receipt_bytes))]
-fn each(rt: &HostRuntime, a: Asked, key: &[u8], source: &mut Source) -> Found {
-    let mut chunk = io::large_buffer();
+fn each(rt: &HostRuntime, a: Asked, key: &[u8], source: Source) -> Found {
     let mut line = line::buffer();
     let mut f = nothing_found();
-    let mut p = lines::start();
-    let mut turns = u64::MAX;
-    while turns > 0 && p.more & f.on {
-        p = lines::go_on(p, source, LINE, &mut chunk, &mut line);
-        f = counted(f, line_of(rt, a, key, lines::ended_bytes(p), &line));
-        turns -= 1;
+    let mut lines = lines::of(source);
+    for _ in 0..u64::MAX {
+        match lines.next(&mut line) {
+            Ok(Some(n)) => f = counted(f, line_of(rt, a, key, n, &line)),
+            Ok(None) => break,
+            Err(e) => {
+                f.failed = Some(e);
+                break;
+            }
+        }
+        if !f.on {
+            break;
+        }
     }
-    f.failed = p.failed;
     f
 }
 
@@ -180,9 +183,7 @@ fn of_file(
     key: &[u8],
     listed: [u8; RECEIPT],
     name: &[u8],
-) -> Fingerprint
-    ensures { (result.from ≤ result.to) × (result.to ≤ receipt_bytes) }
-{
+) -> Option<Fingerprint> {
     let mut k = options::kind(a);
     if has_receipts(a) {
         k.w = listed[0] as u64;
@@ -192,17 +193,14 @@ fn of_file(
 }
 
 // Whether the file is as listed. Receipts are compared by Same; of a digest or a tag every byte is compared, as in the check of a tag.
-fn compared(a: Asked, e: Entry, listed: [u8; RECEIPT], f: Fingerprint) -> u64
-    requires { (f.from ≤ f.to) × (f.to ≤ receipt_bytes) }
-{
-    if !f.good {
+fn compared(a: Asked, e: Entry, listed: [u8; RECEIPT], found: Option<Fingerprint>) -> u64 {
+    let Some(f) = found else {
         return UNREAD;
-    }
+    };
     if e.has_length & (e.bits != f.bits) {
         return WRONG;
     }
-    let bytes = f.bytes;
-    if agree(has_receipts(a), listed, bytes, f.from, f.to) {
+    if agree(has_receipts(a), listed, f) {
         return RIGHT;
     }
     WRONG
@@ -210,21 +208,13 @@ fn compared(a: Asked, e: Entry, listed: [u8; RECEIPT], f: Fingerprint) -> u64
 
 // Whether what is listed is the same receipt, or the part of the bytes.
 #[tactic(auto, unfolding(receipts::specs::Receipt::receipt_bytes))]
-fn agree(
-    are_receipts: bool,
-    listed: [u8; RECEIPT],
-    bytes: [u8; RECEIPT],
-    from: usize,
-    to: usize,
-) -> bool
-    requires { (from ≤ to) × (to ≤ receipt_bytes) }
-{
+fn agree(are_receipts: bool, listed: [u8; RECEIPT], f: Fingerprint) -> bool {
     if are_receipts {
-        let s = same::same(&listed, &bytes);
+        let s = same::same(&listed, &f.receipt());
         return s.same;
     }
-    let size = to - from;
-    buffers::equal_bytes(&listed[0..size], &bytes[from..to])
+    let shown = f.shown();
+    buffers::equal_bytes(&listed[..shown.len()], shown)
 }
 
 fn print(rt: &HostRuntime, name: &[u8], what: u64) -> bool

@@ -100,8 +100,10 @@ pub fn read_name(e: Entry, line: &[u8], room: &mut [u8]) -> Name
     let from = e.name;
     let text = &line[from..];
     if e.escaped {
-        let u = names::read(text, room);
-        return name_of(u.is, u.size);
+        return match names::read(text, room) {
+            Some(size) => name_of(true, size),
+            None => name_of(false, 0),
+        };
     }
     let size = buffers::put(room, 0, text);
     name_of(true, size)

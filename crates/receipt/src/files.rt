@@ -6,7 +6,8 @@ ghost use Rattle.receipt.specs.Sizes.{list_bytes};
 use crate::options::Asked;
 use crate::{arguments, check, line, list, messages, options};
 use finalization::RECEIPT;
-use program::status;
+use program::arguments::Argument;
+use program::status::Status;
 
 // How far the files are done.
 #[derive(Clone, Copy)]
@@ -30,34 +31,27 @@ struct Done {
 }
 
 // Does what is asked for with each file, and answers how that ended. With a key, which is not empty, tags are made.
-pub fn all(rt: &HostRuntime, a: Asked, key: &[u8]) -> u64 {
+pub fn all(rt: &HostRuntime, a: Asked, key: &[u8]) -> Status {
     let mut list = list::buffer();
     let p = each(rt, a, key, &mut list);
     if a.tally & p.on {
-        return status::of(list::print_tally(rt, &list, p.count) & p.good);
+        return Status::from(list::print_tally(rt, &list, p.count) & p.good);
     }
-    status::of(p.good)
+    Status::from(p.good)
 }
 
 fn each(rt: &HostRuntime, a: Asked, key: &[u8], list: &mut [u8]) -> Progress
     requires { list_bytes ≡ length list.old }
 {
-    let end = program::arguments::count(rt);
     let mut p = Progress {
         good: true,
         on: true,
         count: 0,
     };
-    let mut t = program::arguments::start();
-    let mut i: usize = 1;
-    while i < end {
-        t = arguments::next(rt, t, i);
-        p = after(
-            p,
-            argument(rt, a, key, p.on & (t.is == program::arguments::FILE), i),
-            list,
-        );
-        i += 1;
+    for t in arguments::all(rt) {
+        if let Argument::File(i) = t {
+            p = after(p, argument(rt, a, key, p.on, i), list);
+        }
     }
     p
 }
@@ -82,7 +76,7 @@ fn argument(rt: &HostRuntime, a: Asked, key: &[u8], wanted: bool, i: usize) -> D
     }
     let mut text = io::buffer();
     match program::arguments::get(rt, i, &mut text) {
-        Some(n) => named(rt, a, key, &text[..n]),
+        Some(name) => named(rt, a, key, name),
         None => {
             messages::say_alone(rt, b"a file's name is too long");
             without_receipt(false, true)
@@ -113,16 +107,16 @@ fn named(rt: &HostRuntime, a: Asked, key: &[u8], name: &[u8]) -> Done
 fn printed(rt: &HostRuntime, a: Asked, key: &[u8], name: &[u8]) -> Done
     requires { length name.now ≤ name_bytes }
 {
-    let f = fingerprint::of_file(rt, options::kind(a), key, name);
-    if !f.good {
-        return without_receipt(false, true);
-    }
-    let bytes = f.bytes;
-    let written = line::print(rt, bytes, f.from, f.to, a.length, f.bits, name);
-    Done {
-        good: written,
-        on: written,
-        made: written,
-        receipt: bytes,
+    match fingerprint::of_file(rt, options::kind(a), key, name) {
+        Some(f) => {
+            let written = line::print(rt, f.shown(), a.length, f.bits, name);
+            Done {
+                good: written,
+                on: written,
+                made: written,
+                receipt: f.receipt(),
+            }
+        }
+        None => without_receipt(false, true),
     }
 }

@@ -41,7 +41,7 @@ pub fn read(rt: &HostRuntime, i: usize, from: usize, room: &mut [u8]) -> Key
 {
     let mut text = io::buffer();
     match arguments::get(rt, i, &mut text) {
-        Some(n) => named(rt, arguments::from(&text[..n], from), room),
+        Some(path) => named(rt, arguments::from(path, from), room),
         None => {
             messages::say(rt, b"--key", b"the file's name is too long");
             Key {

@@ -15,19 +15,11 @@ pub const LINE: usize = 1 + (2 * RECEIPT + 1) + (1 + DIGITS) + 2 + 2 * NAME + 1;
 
 // Prints bytes of a receipt or of a tag, the length of a file if it is asked for, and its name.
 #[tactic(auto, unfolding(receipts::specs::Receipt::receipt_bytes))]
-pub fn print(
-    rt: &HostRuntime,
-    bytes: [u8; RECEIPT],
-    from: usize,
-    to: usize,
-    with_length: bool,
-    bits: u64,
-    name: &[u8],
-) -> bool
-    requires { (from ≤ to) × (to ≤ receipt_bytes) × (length name.now ≤ name_bytes) }
+pub fn print(rt: &HostRuntime, shown: &[u8], with_length: bool, bits: u64, name: &[u8]) -> bool
+    requires { (length shown.now ≤ receipt_bytes) × (length name.now ≤ name_bytes) }
 {
     let mut line = buffer();
-    let end = put(&mut line, &bytes[from..to], with_length, bits, name);
+    let end = put(&mut line, shown, with_length, bits, name);
     let first = begin(name);
     output::write(rt, b"receipt", &line[first..end])
 }

@@ -14,6 +14,7 @@ mod options;
 
 use options::Asked;
 use program::status;
+use program::status::Status;
 
 fn main(rt: HostRuntime) {
     let a = options::read(&rt);
@@ -22,8 +23,8 @@ fn main(rt: HostRuntime) {
 }
 
 // Does what is asked for, and answers how it ended.
-fn run(rt: &HostRuntime, a: Asked) -> u64 {
-    if a.status != status::DONE {
+fn run(rt: &HostRuntime, a: Asked) -> Status {
+    if a.status != Status::Done {
         return a.status;
     }
     if a.key == 0 {
@@ -33,12 +34,12 @@ fn run(rt: &HostRuntime, a: Asked) -> u64 {
 }
 
 // Reads the key, and goes on if that went well.
-fn with_key(rt: &HostRuntime, mut a: Asked) -> u64 {
+fn with_key(rt: &HostRuntime, mut a: Asked) -> Status {
     let mut room = key::buffer();
     let k = key::read(rt, a.key, a.key_from, &mut room);
     let size = k.size;
     if size == 0 {
-        return status::FAILED;
+        return Status::Failed;
     }
     a.input_taken = k.is_input;
     files::all(rt, a, &room[0..size])

@@ -1,8 +1,9 @@
 // What the options ask for, and whether they suit each other.
+use crate::arguments::{Flag, Is, Valued};
 use crate::{arguments, messages};
 use fingerprint::Kind;
-use program::arguments::{Argument, FILE, UNKNOWN, VALUED, from};
-use program::status;
+use program::arguments::{Argument, Start, Wrong, from};
+use program::status::Status;
 
 #[derive(Clone, Copy)]
 pub struct Asked {
@@ -20,8 +21,8 @@ pub struct Asked {
     files: u64,
     // Whether standard input is read for something else than the file of its name.
     pub input_taken: bool,
-    // DONE; or else nothing is done, since an option is wrong, or help or the version is asked for.
-    pub status: u64,
+    // Done; or else nothing is done, since an option is wrong, or help or the version is asked for.
+    pub status: Status,
 }
 
 // What is asked for of each file.
@@ -37,26 +38,21 @@ pub fn kind(a: Asked) -> Kind {
 // What is asked for.
 pub fn read(rt: &HostRuntime) -> Asked {
     let mut a = read_all(rt);
-    if a.status != status::DONE {
+    if a.status != Status::Done {
         return a;
     }
     let n = digest_length(a.w, a.n);
     a.n = n;
     if !is_right(rt, a) {
-        a.status = status::MISUSED;
+        a.status = Status::Misused;
     }
     a
 }
 
 fn read_all(rt: &HostRuntime) -> Asked {
-    let end = program::arguments::count(rt);
     let mut a = nothing();
-    let mut t = program::arguments::start();
-    let mut i: usize = 1;
-    while i < end {
-        t = arguments::next(rt, t, i);
-        a = with(rt, a, t, i);
-        i += 1;
+    for t in arguments::all(rt) {
+        a = with(rt, a, t);
     }
     a
 }
@@ -73,51 +69,53 @@ fn nothing() -> Asked {
         tally: false,
         files: 0,
         input_taken: false,
-        status: status::DONE,
+        status: Status::Done,
     }
 }
 
 // What is asked for with argument i. Of several faults the first is said.
-fn with(rt: &HostRuntime, a: Asked, t: Argument, i: usize) -> Asked {
-    if a.status != status::DONE {
+fn with(rt: &HostRuntime, mut a: Asked, t: Is) -> Asked {
+    if a.status != Status::Done {
         return a;
     }
-    let is = t.is;
-    match is {
-        arguments::WORD_SIZE => word_size(rt, a, t),
-        arguments::BITS => bits(rt, a, t),
-        arguments::KEY => key_file(rt, a, t),
-        UNKNOWN | VALUED => no_option(rt, a, i, is),
-        _ => with_flag(a, is),
+    match t {
+        Argument::Valued(Valued::WordSize, start) => word_size(rt, a, start),
+        Argument::Valued(Valued::Bits, start) => bits(rt, a, start),
+        Argument::Valued(Valued::Key, start) => key_file(rt, a, start),
+        Argument::Wrong(i, why) => no_option(rt, a, i, why),
+        Argument::Flag(flag) => with_flag(a, flag),
+        Argument::File(_) => {
+            a.files = std::num::wrapping_add_u64(a.files, 1);
+            a
+        }
+        Argument::Value | Argument::End => a,
     }
 }
 
-fn with_flag(mut a: Asked, is: usize) -> Asked {
-    match is {
-        arguments::CHECK | arguments::CHECK_LONG => a.check = true,
-        arguments::DIGEST => a.digest = true,
-        arguments::LENGTH => a.length = true,
-        arguments::TALLY => a.tally = true,
-        arguments::HELP | arguments::HELP_LONG => a.status = status::HELP,
-        arguments::VERSION => a.status = status::VERSION,
-        FILE => a.files = std::num::wrapping_add_u64(a.files, 1),
-        _ => {}
+fn with_flag(mut a: Asked, flag: Flag) -> Asked {
+    match flag {
+        Flag::Check => a.check = true,
+        Flag::Digest => a.digest = true,
+        Flag::Length => a.length = true,
+        Flag::Tally => a.tally = true,
+        Flag::Help => a.status = Status::Help,
+        Flag::Version => a.status = Status::Version,
     }
     a
 }
 
-fn no_option(rt: &HostRuntime, a: Asked, i: usize, is: usize) -> Asked {
-    program::arguments::say_no_option(rt, b"receipt", i, is);
+fn no_option(rt: &HostRuntime, a: Asked, i: usize, why: Wrong) -> Asked {
+    program::arguments::say_wrong(rt, b"receipt", i, why);
     misused(a)
 }
 
 fn misused(mut a: Asked) -> Asked {
-    a.status = status::MISUSED;
+    a.status = Status::Misused;
     a
 }
 
 // The option -w.
-fn word_size(rt: &HostRuntime, mut a: Asked, t: Argument) -> Asked {
+fn word_size(rt: &HostRuntime, mut a: Asked, t: Start) -> Asked {
     let w = number(rt, b"-w", t);
     if !w.is {
         return misused(a);
@@ -131,7 +129,7 @@ fn word_size(rt: &HostRuntime, mut a: Asked, t: Argument) -> Asked {
 }
 
 // The option -n. Whether its value suits the word size is known after all options.
-fn bits(rt: &HostRuntime, mut a: Asked, t: Argument) -> Asked {
+fn bits(rt: &HostRuntime, mut a: Asked, t: Start) -> Asked {
     let n = number(rt, b"-n", t);
     if !n.is {
         return misused(a);
@@ -145,12 +143,11 @@ fn bits(rt: &HostRuntime, mut a: Asked, t: Argument) -> Asked {
 }
 
 // The value of an option as a number; says what is wrong if it is none.
-fn number(rt: &HostRuntime, option: &[u8], t: Argument) -> script::Number {
+fn number(rt: &HostRuntime, option: &[u8], t: Start) -> script::Number {
     let mut text = io::buffer();
-    let found = program::arguments::get(rt, t.value, &mut text);
+    let found = program::arguments::get(rt, t.argument, &mut text);
     let missing = found.is_none();
-    let n = found.unwrap_or(0);
-    let value = from(&text[..n], t.from);
+    let value = from(found.unwrap_or_default(), t.byte);
     let number = script::read_number(value);
     if !number.is {
         not_a_number(rt, option, missing, value);
@@ -167,13 +164,13 @@ fn not_a_number(rt: &HostRuntime, option: &[u8], missing: bool, value: &[u8]) {
 }
 
 // The option --key. Its file is read after all options.
-fn key_file(rt: &HostRuntime, mut a: Asked, t: Argument) -> Asked {
-    if program::arguments::count(rt) <= t.value {
+fn key_file(rt: &HostRuntime, mut a: Asked, t: Start) -> Asked {
+    if program::arguments::is_missing(rt, t.argument) {
         messages::say(rt, b"--key", b"a file is missing after it");
         return misused(a);
     }
-    a.key = t.value;
-    a.key_from = t.from;
+    a.key = t.argument;
+    a.key_from = t.byte;
     a
 }
 
