@@ -71,7 +71,7 @@ fn each(rt: &HostRuntime, a: Asked, key: &[u8], source: Source) -> Found {
     let mut f = nothing_found();
     let mut lines = lines::of(source);
     for _ in 0..u64::MAX {
-        match lines.next(&mut line) {
+        match lines.next(&mut line, LINE) {
             Ok(Some(n)) => f = counted(f, line_of(rt, a, key, n, &line)),
             Ok(None) => break,
             Err(e) => {
