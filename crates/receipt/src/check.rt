@@ -143,7 +143,7 @@ fn checked(rt: &HostRuntime, a: Asked, key: &[u8], line: &[u8]) -> u64
     let mut room = line::buffer();
     let name = entry::read_name(e, line, &mut room);
     let size = name.size;
-    if !(e.is & name.is & is_kind(a, listed, k.count)) {
+    if !(e.is & name.is & is_kind(a, listed, k.unwrap_or(0))) {
         return NO_LINE;
     }
     file(rt, a, key, e, listed, &room[0..size])

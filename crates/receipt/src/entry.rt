@@ -36,12 +36,14 @@ pub fn parts(line: &[u8]) -> Entry
     let spaces = either(has_length, to, end);
     let name = past(line, spaces, 2);
     Entry {
-        is: are_spaces(&line[spaces..name]) & (number.is | !has_length) & (name < line.len()),
+        is: are_spaces(&line[spaces..name])
+            & (number.is_some() | !has_length)
+            & (name < line.len()),
         escaped: from != 0,
         from: from,
         to: to,
         has_length: has_length,
-        bits: number.value,
+        bits: number.unwrap_or(0),
         name: name,
     }
 }

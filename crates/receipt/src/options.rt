@@ -116,40 +116,38 @@ fn misused(mut a: Asked) -> Asked {
 
 // The option -w.
 fn word_size(rt: &HostRuntime, mut a: Asked, t: Start) -> Asked {
-    let w = number(rt, b"-w", t);
-    if !w.is {
+    let Some(w) = number(rt, b"-w", t) else {
+        return misused(a);
+    };
+    if !runs::is_word_size(w) {
+        messages::number_wrong(rt, b"-w", w, b"the word size is 32 or 64");
         return misused(a);
     }
-    if !runs::is_word_size(w.value) {
-        messages::number_wrong(rt, b"-w", w.value, b"the word size is 32 or 64");
-        return misused(a);
-    }
-    a.w = w.value;
+    a.w = w;
     a
 }
 
 // The option -n. Whether its value suits the word size is known after all options.
 fn bits(rt: &HostRuntime, mut a: Asked, t: Start) -> Asked {
-    let n = number(rt, b"-n", t);
-    if !n.is {
+    let Some(n) = number(rt, b"-n", t) else {
         return misused(a);
-    }
-    if n.value == 0 {
+    };
+    if n == 0 {
         messages::number_wrong(rt, b"-n", 0, b"a digest has 1 bit at least");
         return misused(a);
     }
-    a.n = n.value;
+    a.n = n;
     a
 }
 
 // The value of an option as a number; says what is wrong if it is none.
-fn number(rt: &HostRuntime, option: &[u8], t: Start) -> script::Number {
+fn number(rt: &HostRuntime, option: &[u8], t: Start) -> Option<u64> {
     let mut text = io::buffer();
     let found = program::arguments::get(rt, t.argument, &mut text);
     let missing = found.is_none();
     let value = from(found.unwrap_or_default(), t.byte);
     let number = script::read_number(value);
-    if !number.is {
+    if number.is_none() {
         not_a_number(rt, option, missing, value);
     }
     number
