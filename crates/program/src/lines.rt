@@ -68,7 +68,7 @@ impl Lines {
         requires { most ≤ length room.old }
     {
         let rest = &self.chunk[self.from..self.to];
-        let n = script::until(rest, b'\n');
+        let n = rest.iter().position(|c| *c == b'\n').unwrap_or(rest.len());
         let joined = join(size, &rest[..n], room, most);
         self.from += n;
         joined
