@@ -103,7 +103,7 @@ fn part(bytes: [u8; RECEIPT], from: usize, size: usize, bits: u64) -> Fingerprin
 
 // The bits of what was appended since the record had this total.
 fn bits_since(before: u64, total: u64) -> u64 {
-    std::num::wrapping_sub_u64(total, before) << 3
+    8u64.saturating_mul(total.saturating_sub(before))
 }
 
 // The bytes of a digest, or a tag, of n bits.
