@@ -106,12 +106,9 @@ fn bits_since(before: u64, total: u64) -> u64 {
     8u64.saturating_mul(total.saturating_sub(before))
 }
 
-// The bytes of a digest, or a tag, of n bits.
+// The bytes of a digest, or a tag, of n bits, which are not more than the longest has.
 pub fn digest_bytes(n: u64) -> usize
     ensures { result ≤ length_place - digest_place }
 {
-    if runs::longest_digest(64) < n {
-        return LONGEST;
-    }
-    n.div_ceil(8) as usize
+    (n.div_ceil(8) as usize).min(LONGEST)
 }

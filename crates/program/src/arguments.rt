@@ -9,7 +9,7 @@ use std::marker::PhantomData;
 use std::rt::Env;
 
 // Options of a program, by their names.
-pub trait Named {
+pub trait Named: Copy {
     fn of_name(name: &[u8]) -> Option<Self>;
 }
 
@@ -75,7 +75,7 @@ pub struct Arguments<'a, F, V> {
 }
 
 // The arguments of the program.
-pub fn all<F: Named + Drop, V: Named + Drop>(rt: &HostRuntime) -> Arguments<'_, F, V> {
+pub fn all<F: Named, V: Named>(rt: &HostRuntime) -> Arguments<'_, F, V> {
     Arguments {
         rt,
         i: 1,
@@ -101,7 +101,7 @@ pub fn is_missing(rt: &HostRuntime, i: usize) -> bool {
     matches!(rt.arg(i, &mut room), Err(FillError::NotPresent))
 }
 
-impl<'a, F: Named + Drop, V: Named + Drop> Iterator for Arguments<'a, F, V> {
+impl<'a, F: Named, V: Named> Iterator for Arguments<'a, F, V> {
     type Item = Argument<F, V>;
 
     ghost remaining = { λ s. at_most (s.end - s.i) };
@@ -137,16 +137,12 @@ fn after<F, V>(argument: &Argument<F, V>, i: usize) -> Next {
 }
 
 // Argument i, which may be an option; next is the one after it. One that is too long is read as an empty one, which is no option.
-fn read<F: Named + Drop, V: Named + Drop>(
-    rt: &HostRuntime,
-    i: usize,
-    next: usize,
-) -> Argument<F, V> {
+fn read<F: Named, V: Named>(rt: &HostRuntime, i: usize, next: usize) -> Argument<F, V> {
     let mut text = io::buffer();
     of_text(i, get_or_empty(rt, i, &mut text), next)
 }
 
-fn of_text<F: Named + Drop, V: Named + Drop>(i: usize, text: &[u8], next: usize) -> Argument<F, V> {
+fn of_text<F: Named, V: Named>(i: usize, text: &[u8], next: usize) -> Argument<F, V> {
     match text {
         b"--" => Argument::End,
         [b'-', _, ..] => of_option(i, text, next),
@@ -155,11 +151,7 @@ fn of_text<F: Named + Drop, V: Named + Drop>(i: usize, text: &[u8], next: usize)
 }
 
 // An argument that begins as an option does.
-fn of_option<F: Named + Drop, V: Named + Drop>(
-    i: usize,
-    text: &[u8],
-    next: usize,
-) -> Argument<F, V> {
+fn of_option<F: Named, V: Named>(i: usize, text: &[u8], next: usize) -> Argument<F, V> {
     let (name, value) = split(text);
     if let Some(option) = V::of_name(name) {
         return Argument::Valued(option, value_start(i, value, next));
