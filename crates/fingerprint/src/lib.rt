@@ -18,7 +18,7 @@ const LONGEST: usize = LENGTH - DIGEST;
 pub struct Fingerprint {
     // The receipt, or the tag at the front.
     bytes: [u8; RECEIPT],
-    // The part of the bytes that is printed.
+    // The part of the bytes that is printed, by places and not as a slice, since a struct cannot borrow from itself.
     from: usize,
     to: usize,
     // The length of the file in bits.
