@@ -67,11 +67,10 @@ fn read_all(engine: Engine, mut source: Source, opened: Record) -> Result<Record
 
 // Appends the bytes of a read.
 fn append(engine: Engine, r: Record, piece: &[u8]) -> Result<Record, Fault> {
-    let o = append::append(engine, r, piece);
-    if o.number != 0 {
-        return Err(Fault::TooLong);
+    match append::append(engine, r, piece) {
+        Ok(step) => Ok(step.next),
+        Err(_) => Err(Fault::TooLong),
     }
-    Ok(o.next)
 }
 
 // Says why a file makes no record.
