@@ -6,40 +6,44 @@ mod arguments;
 mod check;
 mod entry;
 mod files;
+mod job;
 mod key;
 mod line;
 mod list;
 mod messages;
+mod name;
 mod options;
 
+use job::Job;
 use options::Asked;
 use program::status;
 
 fn main(rt: HostRuntime) {
-    let a = options::read(&rt);
-    let s = run(&rt, a);
+    let s = match options::read(&rt) {
+        Ok(asked) => run(&rt, asked),
+        Err(s) => s,
+    };
     status::end(&rt, b"receipt", s);
 }
 
-// Does what is asked for, and answers how it ended.
-fn run(rt: &HostRuntime, a: Asked) -> u64 {
-    if a.status != status::DONE {
-        return a.status;
-    }
-    if a.key == 0 {
-        return files::all(rt, a, b"");
-    }
-    with_key(rt, a)
-}
-
-// Reads the key, and goes on if that went well.
-fn with_key(rt: &HostRuntime, mut a: Asked) -> u64 {
+// Does what is asked for, and answers how it ended. The key is read first.
+fn run(rt: &HostRuntime, asked: Asked) -> u64 {
     let mut room = key::buffer();
-    let k = key::read(rt, a.key, a.key_from, &mut room);
-    let size = k.size;
-    if size == 0 {
-        return status::FAILED;
+    match asked.key {
+        Some(file) => match key::read(rt, file, &mut room) {
+            Some(key) => files::all(&Job {
+                rt,
+                asked,
+                key: &room[..key.size],
+                input_taken: key.is_input,
+            }),
+            None => status::FAILED,
+        },
+        None => files::all(&Job {
+            rt,
+            asked,
+            key: b"",
+            input_taken: false,
+        }),
     }
-    a.input_taken = k.is_input;
-    files::all(rt, a, &room[0..size])
 }

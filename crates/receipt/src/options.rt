@@ -7,227 +7,180 @@ use program::status;
 #[derive(Clone, Copy)]
 pub struct Asked {
     pub w: u64,
-    // The digest length; while the options are read 0 if none is asked for.
-    pub n: u64,
-    // The argument that names the key's file, 0 if there is no key, and the place there where the name begins.
-    pub key: usize,
-    pub key_from: usize,
+    // The digest length; where none is asked for the longest of the word size.
+    n: Option<u64>,
+    // Where the name of the key's file stands, if there is a key.
+    pub key: Option<KeyName>,
     pub check: bool,
     pub digest: bool,
     pub length: bool,
     pub tally: bool,
     // How many files are named.
     files: u64,
-    // Whether standard input is read for something else than the file of its name.
-    pub input_taken: bool,
-    // DONE; or else nothing is done, since an option is wrong, or help or the version is asked for.
-    pub status: u64,
 }
 
-// What is asked for of each file.
-pub fn kind(a: Asked) -> Kind {
-    Kind {
-        w: a.w,
-        n: a.n,
-        digest: a.digest,
-        input_taken: a.input_taken,
+// The argument that names the key's file, and the place there where the name begins.
+#[derive(Clone, Copy, Debug, PartialEq, Eq)]
+pub struct KeyName {
+    pub argument: usize,
+    pub byte: usize,
+}
+
+// What is asked for; or, where an option is wrong or asks for something else, how the program ends.
+pub fn read(rt: &HostRuntime) -> Result<Asked, u64> {
+    let asked = read_all(rt)?;
+    if is_right(rt, &asked) {
+        Ok(asked)
+    } else {
+        Err(status::MISUSED)
     }
 }
 
-// What is asked for.
-pub fn read(rt: &HostRuntime) -> Asked {
-    let mut a = read_all(rt);
-    if a.status != status::DONE {
-        return a;
-    }
-    let n = digest_length(a.w, a.n);
-    a.n = n;
-    if !is_right(rt, a) {
-        a.status = status::MISUSED;
-    }
-    a
-}
-
-fn read_all(rt: &HostRuntime) -> Asked {
+fn read_all(rt: &HostRuntime) -> Result<Asked, u64> {
     let end = program::arguments::count(rt);
-    let mut a = nothing();
+    let mut asked = Asked::nothing();
     let mut t = program::arguments::start();
-    let mut i: usize = 1;
-    while i < end {
+    for i in 1..end {
         t = arguments::next(rt, t, i);
-        a = with(rt, a, t, i);
-        i += 1;
+        asked.take(rt, t, i)?;
     }
-    a
+    Ok(asked)
 }
 
-fn nothing() -> Asked {
-    Asked {
-        w: 32,
-        n: 0,
-        key: 0,
-        key_from: 0,
-        check: false,
-        digest: false,
-        length: false,
-        tally: false,
-        files: 0,
-        input_taken: false,
-        status: status::DONE,
+impl Asked {
+    fn nothing() -> Asked {
+        Asked {
+            w: 32,
+            n: None,
+            key: None,
+            check: false,
+            digest: false,
+            length: false,
+            tally: false,
+            files: 0,
+        }
     }
-}
 
-// What is asked for with argument i. Of several faults the first is said.
-fn with(rt: &HostRuntime, a: Asked, t: Argument, i: usize) -> Asked {
-    if a.status != status::DONE {
-        return a;
+    // Takes argument i in.
+    fn take(&mut self, rt: &HostRuntime, t: Argument, i: usize) -> Result<(), u64> {
+        match t.is {
+            arguments::WORD_SIZE => self.w = word_size(rt, t)?,
+            arguments::BITS => self.n = Some(bits(rt, t)?),
+            arguments::KEY => self.key = Some(key_file(rt, t)?),
+            arguments::CHECK | arguments::CHECK_LONG => self.check = true,
+            arguments::DIGEST => self.digest = true,
+            arguments::LENGTH => self.length = true,
+            arguments::TALLY => self.tally = true,
+            arguments::HELP | arguments::HELP_LONG => return Err(status::HELP),
+            arguments::VERSION => return Err(status::VERSION),
+            FILE => self.files = self.files.saturating_add(1),
+            UNKNOWN | VALUED => {
+                program::arguments::say_no_option(rt, b"receipt", i, t.is);
+                return Err(status::MISUSED);
+            }
+            _ => {}
+        }
+        Ok(())
     }
-    let is = t.is;
-    match is {
-        arguments::WORD_SIZE => word_size(rt, a, t),
-        arguments::BITS => bits(rt, a, t),
-        arguments::KEY => key_file(rt, a, t),
-        UNKNOWN | VALUED => no_option(rt, a, i, is),
-        _ => with_flag(a, is),
+
+    // The digest length.
+    pub fn bits(&self) -> u64 {
+        match self.n {
+            Some(n) => n,
+            None => runs::longest_digest(self.w),
+        }
     }
-}
-
-fn with_flag(mut a: Asked, is: usize) -> Asked {
-    match is {
-        arguments::CHECK | arguments::CHECK_LONG => a.check = true,
-        arguments::DIGEST => a.digest = true,
-        arguments::LENGTH => a.length = true,
-        arguments::TALLY => a.tally = true,
-        arguments::HELP | arguments::HELP_LONG => a.status = status::HELP,
-        arguments::VERSION => a.status = status::VERSION,
-        FILE => a.files = std::num::wrapping_add_u64(a.files, 1),
-        _ => {}
-    }
-    a
-}
-
-fn no_option(rt: &HostRuntime, a: Asked, i: usize, is: usize) -> Asked {
-    program::arguments::say_no_option(rt, b"receipt", i, is);
-    misused(a)
-}
-
-fn misused(mut a: Asked) -> Asked {
-    a.status = status::MISUSED;
-    a
 }
 
 // The option -w.
-fn word_size(rt: &HostRuntime, mut a: Asked, t: Argument) -> Asked {
-    let w = number(rt, b"-w", t);
-    if !w.is {
-        return misused(a);
+fn word_size(rt: &HostRuntime, t: Argument) -> Result<u64, u64> {
+    let w = number(rt, b"-w", t)?;
+    if !runs::is_word_size(w) {
+        messages::number_wrong(rt, b"-w", w, b"the word size is 32 or 64");
+        return Err(status::MISUSED);
     }
-    if !runs::is_word_size(w.value) {
-        messages::number_wrong(rt, b"-w", w.value, b"the word size is 32 or 64");
-        return misused(a);
-    }
-    a.w = w.value;
-    a
+    Ok(w)
 }
 
 // The option -n. Whether its value suits the word size is known after all options.
-fn bits(rt: &HostRuntime, mut a: Asked, t: Argument) -> Asked {
-    let n = number(rt, b"-n", t);
-    if !n.is {
-        return misused(a);
-    }
-    if n.value == 0 {
+fn bits(rt: &HostRuntime, t: Argument) -> Result<u64, u64> {
+    let n = number(rt, b"-n", t)?;
+    if n == 0 {
         messages::number_wrong(rt, b"-n", 0, b"a digest has 1 bit at least");
-        return misused(a);
+        return Err(status::MISUSED);
     }
-    a.n = n.value;
-    a
+    Ok(n)
 }
 
 // The value of an option as a number; says what is wrong if it is none.
-fn number(rt: &HostRuntime, option: &[u8], t: Argument) -> script::Number {
+fn number(rt: &HostRuntime, option: &[u8], t: Argument) -> Result<u64, u64> {
     let mut text = io::buffer();
-    let found = program::arguments::get(rt, t.value, &mut text);
-    let missing = found.is_none();
-    let n = found.unwrap_or(0);
+    let Some(n) = program::arguments::get(rt, t.value, &mut text) else {
+        messages::say(rt, option, b"a number is missing after it");
+        return Err(status::MISUSED);
+    };
     let value = from(&text[..n], t.from);
     let number = script::read_number(value);
     if !number.is {
-        not_a_number(rt, option, missing, value);
+        messages::value_wrong(rt, option, value, b"this is no number, or is too large");
+        return Err(status::MISUSED);
     }
-    number
-}
-
-fn not_a_number(rt: &HostRuntime, option: &[u8], missing: bool, value: &[u8]) {
-    if missing {
-        messages::say(rt, option, b"a number is missing after it");
-        return;
-    }
-    messages::value_wrong(rt, option, value, b"this is no number, or is too large");
+    Ok(number.value)
 }
 
 // The option --key. Its file is read after all options.
-fn key_file(rt: &HostRuntime, mut a: Asked, t: Argument) -> Asked {
+fn key_file(rt: &HostRuntime, t: Argument) -> Result<KeyName, u64> {
     if program::arguments::count(rt) <= t.value {
         messages::say(rt, b"--key", b"a file is missing after it");
-        return misused(a);
+        return Err(status::MISUSED);
     }
-    a.key = t.value;
-    a.key_from = t.from;
-    a
-}
-
-// The digest length that is asked for: the longest of the word size if none is.
-fn digest_length(w: u64, n: u64) -> u64 {
-    if n != 0 {
-        return n;
-    }
-    runs::longest_digest(w)
+    Ok(KeyName {
+        argument: t.value,
+        byte: t.from,
+    })
 }
 
 // Whether a file is named and the options suit each other; says what is wrong if not.
-fn is_right(rt: &HostRuntime, a: Asked) -> bool {
-    if runs::longest_digest(a.w) < a.n {
+fn is_right(rt: &HostRuntime, asked: &Asked) -> bool {
+    let n = asked.bits();
+    if runs::longest_digest(asked.w) < n {
         messages::number_wrong(
             rt,
             b"-n",
-            a.n,
+            n,
             b"a digest has 1 bit at least and 8 times the word size at most",
         );
         return false;
     }
-    if a.files == 0 {
+    if asked.files == 0 {
         messages::say_alone(rt, b"no file is named; --help says what there is");
         return false;
     }
-    if a.key != 0 && a.n % 8 != 0 {
+    if asked.key.is_some() && n % 8 != 0 {
         messages::number_wrong(
             rt,
             b"-n",
-            a.n,
+            n,
             b"with --key a digest has a multiple of 8 bits",
         );
         return false;
     }
-    if a.tally {
-        return suits_tally(rt, a);
-    }
-    true
+    !asked.tally || suits_tally(rt, asked)
 }
 
-fn suits_tally(rt: &HostRuntime, a: Asked) -> bool {
-    if a.key != 0 {
+fn suits_tally(rt: &HostRuntime, asked: &Asked) -> bool {
+    if asked.key.is_some() {
         messages::say_alone(rt, b"--tally counts receipts, and with --key none are made");
         return false;
     }
-    if a.check {
+    if asked.check {
         messages::say_alone(
             rt,
             b"--tally counts receipts, and with --check none are printed",
         );
         return false;
     }
-    if (tally::MOST_RECEIPTS as u64) < a.files {
+    if (tally::MOST_RECEIPTS as u64) < asked.files {
         messages::say_alone(rt, b"--tally takes 960 files at most");
         return false;
     }
