@@ -168,11 +168,10 @@ fn of_number(word: &[u8], low: u64, high: u64, why: u64) -> u64 {
     if bytes_from_to(word, b'0', b'9') != word.len() {
         return NO_NUMBER;
     }
-    let v = script::read_number(word);
-    if !v.is {
+    let Some(v) = script::read_number(word) else {
         return LARGE;
-    }
-    if (v.value < low) | (high < v.value) {
+    };
+    if (v < low) | (high < v) {
         return why;
     }
     NONE

@@ -13,7 +13,8 @@ use borrow.Author.Tests.{lt-ltb, le-ltb, leb-true, le-leb, lt-leb}
 use Rattle.lsh.specs.Tabulate.{at, tabulate}
 use Rattle.lsh.proofs.Tabulate.{length-tabulate}
 use Rattle.lsh.proofs.Tests.{and-true, and-false}
-use Rattle.hexadecimal.specs.Hex.{is_digit, is_hex_digit, all_hex, byte_of, is_dash, is_hex_bytes, is_bytes, word_bytes, no_length, word_length, written}
+use Rattle.std.specs.Prelude.{Some, None}
+use Rattle.hexadecimal.specs.Hex.{is_digit, is_hex_digit, all_hex, byte_of, is_dash, is_hex_bytes, is_bytes, word_bytes, word_length, written}
 
 -- a decimal digit lies between 0 and 9
 pub digit_low : (c : ℕ) → is_digit c ≡ true → 48 ≤ c
@@ -55,7 +56,7 @@ unfolding is_hex_bytes
 all-hex-of s e = (and-true (not (eqb (length s) 0) && eqb (length s % 2) 0) (all_hex s) e).1
 
 module _ (s output : List ℕ) where
-  pub dash-length : is_dash s ≡ true → record { is = true; count = 0 } ≡ word_length s (length output)
+  pub dash-length : is_dash s ≡ true → Some 0 ≡ word_length s (length output)
   unfolding word_length is_bytes word_bytes
   dash-length d = rw d
 
@@ -64,7 +65,7 @@ module _ (s output : List ℕ) where
   dash-written d = rw d
 
   module _ (d : is_dash s ≡ false) where
-    pub other_length : is_hex_bytes s ≡ false → no_length ≡ word_length s (length output)
+    pub other_length : is_hex_bytes s ≡ false → None ≡ word_length s (length output)
     unfolding word_length is_bytes
     other_length h = rw (d, h)
 
@@ -72,7 +73,7 @@ module _ (s output : List ℕ) where
     unfolding written is_bytes
     other-written h = rw (d, h)
 
-    pub short-length : length output < length s / 2 → no_length ≡ word_length s (length output)
+    pub short-length : length output < length s / 2 → None ≡ word_length s (length output)
     unfolding word_length is_bytes
     short-length lt = rw (d, lt-leb (length s / 2) (length output) lt, and-false (is_hex_bytes s))
 
@@ -81,7 +82,7 @@ module _ (s output : List ℕ) where
     short-written lt = rw (d, lt-leb (length s / 2) (length output) lt, and-false (is_hex_bytes s))
 
     module _ (h : is_hex_bytes s ≡ true) (le : length s / 2 ≤ length output) where
-      pub some-length : record { is = true; count = length s / 2 } ≡ word_length s (length output)
+      pub some-length : Some (length s / 2) ≡ word_length s (length output)
       unfolding word_length is_bytes word_bytes
       some-length = rw (d, h, le-leb (length s / 2) (length output) le, length-tabulate (length s / 2) (byte_of s))
 

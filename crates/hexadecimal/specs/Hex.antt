@@ -1,9 +1,8 @@
 -- Bytes read from two lower-case hexadecimal digits each, the high one first.
 -- Assumes nothing.
-use Rattle.std.specs.Prelude.{Bool, true, false, not, ◌&&◌, ◌||◌, cond, List, [], ◌∷◌, ℕ, ◌+◌, ◌-◌, ◌*◌, ◌/◌, ◌%◌, eqb, ltb, leb, length}
+use Rattle.std.specs.Prelude.{Bool, true, not, ◌&&◌, ◌||◌, cond, List, [], ◌∷◌, ℕ, ◌+◌, ◌-◌, ◌*◌, ◌/◌, ◌%◌, eqb, ltb, leb, length, Option, Some, None}
 use Rattle.std.proofs.lemmas.List.Edits.{sets}
 use Rattle.lsh.specs.Tabulate.{at, tabulate}
-use Rattle.hexadecimal.specs.declared.Length.{Length}
 
 -- 0 to 9
 abbrev pub is_digit : ℕ → Bool
@@ -41,12 +40,9 @@ is_bytes s most = is_dash s || (is_hex_bytes s && leb (length s / 2) most)
 unfoldable pub word_bytes : List ℕ → List ℕ
 word_bytes s = cond (is_dash s) [] (tabulate (length s / 2) (byte_of s))
 
-abbrev pub no_length : Length
-no_length = record { is = false; count = 0 }
-
--- how many bytes a word says
-unfoldable pub word_length : List ℕ → ℕ → Length
-word_length s most = cond (is_bytes s most) (record { is = true; count = length (word_bytes s) }) no_length
+-- how many bytes a word says, if it is BYTES of at most so many
+unfoldable pub word_length : List ℕ → ℕ → Option ℕ
+word_length s most = cond (is_bytes s most) (Some (length (word_bytes s))) None
 
 -- the output with the bytes at its front
 unfoldable pub written : List ℕ → List ℕ → List ℕ

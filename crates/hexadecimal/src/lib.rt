@@ -1,43 +1,29 @@
 // Bytes as two lower-case hexadecimal digits each, read from a word.
 #![tactic(auto)]
 
-ghost use Rattle.std.specs.Prelude.{◌≡◌, true, ◌*◌, ◌/◌, ◌<◌, ◌≤◌, length};
+ghost use Rattle.std.specs.Prelude.{◌≡◌, true, ◌*◌, ◌/◌, ◌<◌, ◌≤◌, length, IfSome, None};
 ghost use Rattle.std.proofs.lemmas.List.Edits.{sets};
 ghost use Rattle.lsh.specs.Tabulate.{tabulate};
-ghost use Rattle.hexadecimal.specs.Hex.{is_digit, is_hex_digit, all_hex, hex_value, byte_of, is_dash, is_hex_bytes, no_length, word_length, written};
+ghost use Rattle.hexadecimal.specs.Hex.{is_digit, is_hex_digit, all_hex, hex_value, byte_of, is_dash, is_hex_bytes, word_length, written};
 
-// How many bytes a word says, if it is BYTES.
-#[derive(Clone, Copy)]
-pub struct Length {
-    pub is: bool,
-    pub count: usize,
-}
-
-// A word as BYTES. The bytes are written at the output's front, if they have room there.
-pub fn read_bytes(word: &[u8], output: &mut [u8]) -> Length
-    ensures { (result ≡ word_length word.now (length output.old)) × (result.count ≤ length output.old) × (output.new ≡ written word.now output.old) }
+// How many bytes a word says, if it is BYTES of which the output has room for all. They are written at its front.
+pub fn read_bytes(word: &[u8], output: &mut [u8]) -> Option<usize>
+    ensures says { result ≡ word_length word.now (length output.old) }
+    ensures within { IfSome result (λ n. n ≤ length output.old) }
+    ensures writes { output.new ≡ written word.now output.old }
 {
     if is_dash(word) {
-        return Length { is: true, count: 0 };
+        return Some(0);
     }
     if !is_hex_bytes(word) {
-        return no_length();
+        return None;
     }
     let n = word.len() / 2;
     if output.len() < n {
-        return no_length();
+        return None;
     }
     decode(word, output);
-    Length { is: true, count: n }
-}
-
-fn no_length() -> Length
-    ensures { result ≡ no_length }
-{
-    Length {
-        is: false,
-        count: 0,
-    }
+    Some(n)
 }
 
 pub fn is_dash(word: &[u8]) -> bool

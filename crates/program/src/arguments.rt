@@ -107,7 +107,9 @@ fn of_text(i: usize, text: &[u8], table: &[u8]) -> Argument {
         return bare(END, true);
     }
     let end = name_end(text);
-    let place = script::place(table, &text[0..end]);
+    let Some(place) = script::place(table, &text[0..end]) else {
+        return bare(UNKNOWN, false);
+    };
     let form = script::word(table, std::num::wrapping_add_usize(place, 1));
     with_form(place, form, i, text, end)
 }

@@ -170,11 +170,8 @@ fn file(job: &Job, listed: Listed, bits: Option<u64>, name: Name) -> Verdict {
 impl<'a> Listed<'a> {
     // What digits say, if that is what is asked for. The bytes are put into the room.
     fn read(job: &Job, digits: &[u8], room: &'a mut [u8; RECEIPT]) -> Option<Listed<'a>> {
-        let k = hexadecimal::read_bytes(digits, room);
-        if !k.is {
-            return None;
-        }
-        Listed::of(job, &room[..k.count])
+        let n = hexadecimal::read_bytes(digits, room)?;
+        Listed::of(job, &room[..n])
     }
 
     fn of(job: &Job, bytes: &'a [u8]) -> Option<Listed<'a>> {

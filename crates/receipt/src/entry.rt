@@ -57,15 +57,10 @@ fn cut_length(rest: &[u8]) -> Option<(Option<u64>, &[u8])>
             if word.is_empty() {
                 return Some((None, rest));
             }
-            Some((Some(number(word)?), after))
+            Some((Some(script::read_number(word)?), after))
         }
         _ => Some((None, rest)),
     }
-}
-
-fn number(word: &[u8]) -> Option<u64> {
-    let n = script::read_number(word);
-    if n.is { Some(n.value) } else { None }
 }
 
 impl<'a> Entry<'a> {

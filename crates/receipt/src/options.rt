@@ -120,12 +120,10 @@ fn number(rt: &HostRuntime, option: &[u8], t: Argument) -> Result<u64, u64> {
         return Err(status::MISUSED);
     };
     let value = from(&text[..n], t.from);
-    let number = script::read_number(value);
-    if !number.is {
+    script::read_number(value).ok_or_else(|| {
         messages::value_wrong(rt, option, value, b"this is no number, or is too large");
-        return Err(status::MISUSED);
-    }
-    Ok(number.value)
+        status::MISUSED
+    })
 }
 
 // The option --key. Its file is read after all options.

@@ -2,9 +2,8 @@
 ghost use Rattle.std.specs.Prelude.{◌≤◌, length};
 
 use crate::reply::Reply;
-use crate::words::{WORDS, Words};
+use crate::words::{Said, WORDS, Words};
 use crate::{LINE, State, checks, order, outputs, records, reply, rolls, words};
-use script::Number;
 
 // Makes the call that a line of n bytes says. The call is lent its part of the buffer: the outputs, or the roll.
 pub fn answer(n: usize, buffer: &[u8], before: State, given: &mut [u8], lent: &mut [u8]) -> Reply {
@@ -47,7 +46,7 @@ pub fn explain(rt: &HostRuntime, before: u64, k: u64, line: &[u8]) -> u64 {
 // The row of a line in the table: its kind, if there is one, and how many letters its form has.
 #[derive(Clone, Copy)]
 pub struct Row {
-    pub kind: Number,
+    pub kind: Said,
     pub size: usize,
 }
 
@@ -62,8 +61,13 @@ pub fn find(line: &[u8], form: &mut [u8]) -> Row
           roll 30 r rollset 31 c showroll 32 - appendroll 33 b rewindroll 34 nb endroll 35 n \
           same 40 bb tally 41 b tagcheck 42 nnbbb \
           record 50 - set 51 nnnbbnbbn engine 52 e";
-    let place = script::place(table, script::word(line, 0));
-    let kind = script::read_number(script::word(table, std::num::wrapping_add_usize(place, 1)));
+    let Some(place) = script::place(table, script::word(line, 0)) else {
+        return Row {
+            kind: words::no_value(),
+            size: 0,
+        };
+    };
+    let kind = words::number_of(script::word(table, std::num::wrapping_add_usize(place, 1)));
     let letters = script::word(table, std::num::wrapping_add_usize(place, 2));
     let size = words::least(script::until(letters, b'-'), form.len());
     words::copy(letters, form);

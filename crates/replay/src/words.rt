@@ -1,13 +1,20 @@
 // The words of a line, read by the form of its call.
 ghost use Rattle.std.specs.Prelude.{◌≤◌, length};
 
-use script::{ENGINES, Number, OUTPUT, ROLL};
+use script::{ENGINES, OUTPUT, ROLL};
 
 // The most words of a line after its name.
 pub const WORDS: usize = 12;
 
 // What each place of such an output holds before the call.
 const LENT: u8 = 0xa5;
+
+// The value of a word, if it has one.
+#[derive(Clone, Copy)]
+pub struct Said {
+    pub is: bool,
+    pub value: u64,
+}
 
 // What the words after the name say.
 #[derive(Clone, Copy)]
@@ -29,7 +36,7 @@ pub struct Words {
 
 // Reads the words of a line by a form, which has a letter for each word after the name: n a number, l LAST, b BYTES, s SIZE of an output, o BYTES that are
 // lent as an output, r SIZE of a roll, c BYTES of a roll, e the number of an engine.
-pub fn read(kind: Number, line: &[u8], form: &[u8], given: &mut [u8], lent: &mut [u8]) -> Words {
+pub fn read(kind: Said, line: &[u8], form: &[u8], given: &mut [u8], lent: &mut [u8]) -> Words {
     let mut w = none(kind, script::until(line, b' '));
     let mut i: usize = 0;
     while i < form.len() {
@@ -39,7 +46,7 @@ pub fn read(kind: Number, line: &[u8], form: &[u8], given: &mut [u8], lent: &mut
     complete(w, line.len())
 }
 
-fn none(kind: Number, name: usize) -> Words {
+fn none(kind: Said, name: usize) -> Words {
     Words {
         kind: kind.value,
         is: kind.is,
@@ -81,7 +88,7 @@ pub fn least(a: usize, b: usize) -> usize
 }
 
 // The words with one more, which stands from at to end. Where the line has no more words, at is not where the next was to begin.
-fn with(mut w: Words, i: usize, letter: u8, v: Number, at: usize, end: usize) -> Words {
+fn with(mut w: Words, i: usize, letter: u8, v: Said, at: usize, end: usize) -> Words {
     if i < WORDS {
         w.values[i] = v.value;
     }
@@ -96,9 +103,9 @@ fn with(mut w: Words, i: usize, letter: u8, v: Number, at: usize, end: usize) ->
 }
 
 // What a word says, if it is what the letter asks for.
-fn value(letter: u8, word: &[u8], w: Words, given: &mut [u8], lent: &mut [u8]) -> Number {
+fn value(letter: u8, word: &[u8], w: Words, given: &mut [u8], lent: &mut [u8]) -> Said {
     match letter {
-        b'n' => script::read_number(word),
+        b'n' => number_of(word),
         b'l' => last(word),
         b's' => output(word, OUTPUT, w.lent, lent),
         b'b' => bytes(word, w.given, given),
@@ -110,18 +117,18 @@ fn value(letter: u8, word: &[u8], w: Words, given: &mut [u8], lent: &mut [u8]) -
     }
 }
 
-fn no_value() -> Number {
-    Number {
+pub fn no_value() -> Said {
+    Said {
         is: false,
         value: 0,
     }
 }
 
-fn last(word: &[u8]) -> Number {
+fn last(word: &[u8]) -> Said {
     let mut byte = [0u8; 1];
     let n = hexadecimal::read_bytes(word, &mut byte);
-    Number {
-        is: n.count == 1,
+    Said {
+        is: n.unwrap_or(0) == 1,
         value: wide(byte[0]),
     }
 }
@@ -130,9 +137,18 @@ fn wide(x: u8) -> u64 {
     x as u64
 }
 
-// A number from low to high.
-fn number(word: &[u8], low: u64, high: u64) -> Number {
+// The number that a word says.
+pub fn number_of(word: &[u8]) -> Said {
     let v = script::read_number(word);
+    Said {
+        is: v.is_some(),
+        value: v.unwrap_or(0),
+    }
+}
+
+// A number from low to high.
+fn number(word: &[u8], low: u64, high: u64) -> Said {
+    let v = number_of(word);
     if (v.value < low) | (high < v.value) {
         return no_value();
     }
@@ -140,31 +156,31 @@ fn number(word: &[u8], low: u64, high: u64) -> Number {
 }
 
 // SIZE of an output, which stands behind the bytes that are used.
-fn output(word: &[u8], most: u64, used: u64, lent: &mut [u8]) -> Number {
+fn output(word: &[u8], most: u64, used: u64, lent: &mut [u8]) -> Said {
     let v = number(word, 0, most);
     let end = std::num::wrapping_add_u64(used, v.value);
     let p = within(used, end, lent);
     let from = p.from;
     let to = p.to;
     buffers::fill(&mut lent[from..to], LENT);
-    Number {
+    Said {
         is: v.is,
         value: end,
     }
 }
 
 // BYTES, which are put behind those that are used.
-fn bytes(word: &[u8], used: u64, room: &mut [u8]) -> Number {
+fn bytes(word: &[u8], used: u64, room: &mut [u8]) -> Said {
     let from = fitting(used, room);
     let n = hexadecimal::read_bytes(word, &mut room[from..]);
-    Number {
-        is: n.is,
-        value: (from + n.count) as u64,
+    Said {
+        is: n.is_some(),
+        value: (from + n.unwrap_or(0)) as u64,
     }
 }
 
 // BYTES of a roll. Each byte has two digits.
-fn roll_bytes(word: &[u8], used: u64, given: &mut [u8]) -> Number {
+fn roll_bytes(word: &[u8], used: u64, given: &mut [u8]) -> Said {
     if 2 * ROLL < word.len() {
         return no_value();
     }

@@ -11,6 +11,7 @@ use native.Mathlib.Omega.{arith}
 use lib.Dec.{eqb}
 use lib.ListN.{length, take, drop, length-drop}
 use lib.Seq.{drop-drop, take_all}
+use Rattle.std.specs.Prelude.{Some, None}
 use Rattle.lists.specs.Equal.{equal}
 use Rattle.script.specs.Words.{before, spaces, after_spaces, word_at, place_from, place_of}
 use Rattle.script.proofs.Lines.{take-before}
@@ -53,14 +54,14 @@ last_word (x ∷ t) h = go (last_word t) (eqb x 32) h
 -- the words before word i, which begins at a place, are others; past the line's end all are
 pub data Sought (s word : List ℕ) (i from : ℕ) : Type 0 where
   within : from ≤ length s → drop from s ≡ after_spaces i s → place_of s word ≡ place_from s word i (suc (spaces (drop from s))) → Sought s word i from
-  past : length s < from → i ≡ place_of s word → Sought s word i from
+  past : length s < from → None ≡ place_of s word → Sought s word i from
 
 module _ (s word : List ℕ) where
   pub sought-none : Sought s word 0 0
   unfolding place_of
   sought-none = within zero-le refl (ap (place_from s word 0) (add-one (spaces s)))
 
-  pub sought-all : (i from : ℕ) → Sought s word i from → length s < from → i ≡ place_of s word
+  pub sought-all : (i from : ℕ) → Sought s word i from → length s < from → None ≡ place_of s word
   sought-all i from (within le at rest) lt = absurd (omega arith)
   sought-all i from (past lt is) _ = is
 
@@ -86,7 +87,7 @@ module _ (s word : List ℕ) where
         go (within inside at rest) = (at, rest)
         go (past lt is) = absurd (omega arith)
 
-    here : place_of s word ≡ cond b i (place_from s word (suc i) (spaces left))
+    here : place_of s word ≡ cond b (Some i) (place_from s word (suc i) (spaces left))
     unfolding place_from word_at
     here =
         let k : from + n - from ≡ length (before 32 left) = omega (arith, size) in
@@ -94,7 +95,7 @@ module _ (s word : List ℕ) where
         ap (λ (m : ℕ). take m left) k ∙ take-before 32 left ∙ ap (before 32) at-word.0 in
         at-word.1 ∙ rw (is-test, is_word)
 
-    pub found_here : b ≡ true → i ≡ place_of s word
+    pub found_here : b ≡ true → Some i ≡ place_of s word
     found_here found = sym (here ∙ rw found)
 
     pub sought-more : b ≡ false → Sought s word (i + 1) (from + n + 1)
@@ -116,4 +117,4 @@ module _ (s word : List ℕ) where
             (rest ∙ ap (place_from s word (suc i)) next.1 ∙ rw (after, add-one i))
         go (no full) =
             past (omega (arith, length-drop from s))
-            (add-one i ∙ sym (rest ∙ ap (place_from s word (suc i)) (last_word left (omega (arith, size)))))
+            (sym (rest ∙ ap (place_from s word (suc i)) (last_word left (omega (arith, size)))))

@@ -1,9 +1,8 @@
 -- Numbers in decimal digits, and words of a chain in bytes.
 -- Assumes nothing.
-use Rattle.std.specs.Prelude.{Bool, true, false, not, ◌&&◌, cond, List, [], ◌∷◌, ℕ, zero, suc, ◌+◌, ◌-◌, ◌*◌, ◌^◌, eqb, ltb, length}
+use Rattle.std.specs.Prelude.{Bool, true, not, ◌&&◌, cond, List, [], ◌∷◌, ℕ, zero, suc, ◌+◌, ◌-◌, ◌*◌, ◌^◌, eqb, ltb, length, Option, Some, None}
 use Rattle.lsh.specs.Tabulate.{at}
 use Rattle.hexadecimal.specs.Hex.{is_digit}
-use Rattle.script.specs.declared.Number.{Number}
 
 abbrev pub all_digits : List ℕ → Bool
 all_digits [] = true
@@ -18,12 +17,9 @@ value_after x (c ∷ s) = value_after (10 * x + (c - 48)) s
 unfoldable pub is_number : List ℕ → Bool
 is_number s = not (eqb (length s) 0) && all_digits s && ltb (value_after 0 s) (2 ^ 64)
 
-abbrev pub no_number : Number
-no_number = record { is = false; value = 0 }
-
--- what a word says as a number
-unfoldable pub word_number : List ℕ → Number
-word_number s = cond (is_number s) (record { is = true; value = value_after 0 s }) no_number
+-- the number that a word says, if it is one
+unfoldable pub word_number : List ℕ → Option ℕ
+word_number s = cond (is_number s) (Some (value_after 0 s)) None
 
 -- WIDE_CHAIN: the bytes of a chain in a script
 abbrev pub wide_chain : ℕ

@@ -1,6 +1,6 @@
 -- The words of a line: what stands between its spaces. A line with k spaces has k + 1 words, of which some may be empty.
 -- Assumes nothing.
-use Rattle.std.specs.Prelude.{cond, List, [], ◌∷◌, ℕ, zero, suc, ◌+◌, eqb}
+use Rattle.std.specs.Prelude.{cond, List, [], ◌∷◌, ℕ, zero, suc, ◌+◌, eqb, Option, Some, None}
 use Rattle.lists.specs.Equal.{equal}
 
 -- the bytes before the first that is the mark, all of them if none is
@@ -23,11 +23,11 @@ after_spaces (suc k) (x ∷ s) = cond (eqb x 32) (after_spaces k s) (after_space
 unfoldable pub word_at : ℕ → List ℕ → List ℕ
 word_at i s = before 32 (after_spaces i s)
 
--- the place of the first of the k words from word i on that is this word, or i + k if none is
-unfoldable pub place_from : List ℕ → List ℕ → ℕ → ℕ → ℕ
-place_from s word i zero = i
-place_from s word i (suc k) = cond (equal (word_at i s) word) i (place_from s word (suc i) k)
+-- the place of the first of the k words from word i on that is this word
+unfoldable pub place_from : List ℕ → List ℕ → ℕ → ℕ → Option ℕ
+place_from s word i zero = None
+place_from s word i (suc k) = cond (equal (word_at i s) word) (Some i) (place_from s word (suc i) k)
 
--- the place of a word among those of a line, or how many these are if it is none of them
-unfoldable pub place_of : List ℕ → List ℕ → ℕ
+-- the place of a word among those of a line, if it is one of them
+unfoldable pub place_of : List ℕ → List ℕ → Option ℕ
 place_of s word = place_from s word 0 (spaces s + 1)

@@ -1,10 +1,10 @@
 // The words of a replay script: a line taken apart into words, and what a word says.
 #![tactic(auto)]
 
-ghost use Rattle.std.specs.Prelude.{◌≡◌, true, ◌+◌, ◌-◌, ◌*◌, ◌<◌, ◌≤◌, length, drop};
+ghost use Rattle.std.specs.Prelude.{◌≡◌, true, ◌+◌, ◌-◌, ◌*◌, ◌<◌, ◌≤◌, length, drop, None};
 ghost use Rattle.lsh.specs.Tabulate.{tabulate};
 ghost use Rattle.script.specs.Words.{before, after_spaces, word_at, place_of};
-ghost use Rattle.script.specs.Numbers.{no_number, word_number, wide_chain, highest_first};
+ghost use Rattle.script.specs.Numbers.{word_number, wide_chain, highest_first};
 ghost use Rattle.hexadecimal.specs.Hex.{is_digit};
 
 // The bytes of a chain in a script, where each of the 16 words has eight at either word size.
@@ -17,13 +17,6 @@ pub const ROLL: usize = 65536;
 
 // The engines that a line can choose have the numbers from 1 to this.
 pub const ENGINES: u64 = 2;
-
-// The number that a word says, if it is one.
-#[derive(Clone, Copy)]
-pub struct Number {
-    pub is: bool,
-    pub value: u64,
-}
 
 // How many bytes stand before the first that is the mark.
 pub fn until(s: &[u8], mark: u8) -> usize
@@ -67,9 +60,8 @@ fn after_spaces(line: &[u8], k: usize) -> usize
     i
 }
 
-// The place of a name among names with one space between two, counted from 0, so that a caller can choose by a number; how many names there are if
-// it is none of them.
-pub fn place(names: &[u8], name: &[u8]) -> usize
+// The place of a name among names with one space between two, counted from 0, if it is one of them.
+pub fn place(names: &[u8], name: &[u8]) -> Option<usize>
     ensures { result ≡ place_of names.now name.now }
 {
     let mut i: usize = 0;
@@ -77,46 +69,37 @@ pub fn place(names: &[u8], name: &[u8]) -> usize
     while from <= names.len() {
         let to = from + until(&names[from..], b' ');
         if buffers::equal_bytes(&names[from..to], name) {
-            return i;
+            return Some(i);
         }
         from = to + 1;
         i += 1;
     }
-    i
+    None
 }
 
-// The number that a word says.
-pub fn read_number(word: &[u8]) -> Number
+// The number that a word says, if it is one.
+pub fn read_number(word: &[u8]) -> Option<u64>
     ensures { result ≡ word_number word.now }
 {
     if word.len() == 0 {
-        return no_number();
+        return None;
     }
     let mut x: u64 = 0;
     let mut i: usize = 0;
     while i < word.len() {
         let c = word[i];
         if !hexadecimal::is_digit(c) {
-            return no_number();
+            return None;
         }
         let d = digit_value(c);
         // 10 x + d is below 2^64 exactly if x is at most this.
         if (u64::MAX - d) / 10 < x {
-            return no_number();
+            return None;
         }
         x = 10 * x + d;
         i += 1;
     }
-    Number { is: true, value: x }
-}
-
-fn no_number() -> Number
-    ensures { result ≡ no_number }
-{
-    Number {
-        is: false,
-        value: 0,
-    }
+    Some(x)
 }
 
 fn digit_value(c: u8) -> u64

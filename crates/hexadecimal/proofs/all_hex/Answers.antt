@@ -1,5 +1,5 @@
 use mathlib.Core.Path.{refl, sym, ◌∙◌}
-use Prim.Native.Nat.{◌-◌, zero-le}
+use Prim.Native.Nat.{zero-le}
 use native.Mathlib.Omega.{arith}
 use Rattle.hexadecimal.proofs.Digits.{hex-other, hex-more, hex-all}
 use Rattle.hexadecimal.proofs.all_hex.Goals as goal

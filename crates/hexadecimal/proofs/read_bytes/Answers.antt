@@ -6,18 +6,30 @@ use Rattle.hexadecimal.proofs.read_bytes.Goals as goal
 pub returns-then-is_dash : goal.returns-then-is_dash
 returns-then-is_dash c = let a = c.args in
     let d = sym c.is_dash.ensures ∙ c.if-is_dash.true in
-    (dash-length a.word.now a.output.now d, zero-le, dash-written a.word.now a.output.now d)
+    record {
+      says = dash-length a.word.now a.output.now d;
+      within = zero-le;
+      writes = dash-written a.word.now a.output.now d;
+    }
 
 pub returns-then-not-is_hex_bytes : goal.returns-then-not-is_hex_bytes
 returns-then-not-is_hex_bytes c = let a = c.args in
     let d = sym c.is_dash.ensures ∙ c.if-is_dash.false in
     let h = sym c.is_hex_bytes.ensures ∙ c.if-not-is_hex_bytes.true in
-    (c.no_length.ensures ∙ other_length a.word.now a.output.now d h, rw c.no_length.ensures zero-le, other-written a.word.now a.output.now d h)
+    record {
+      says = other_length a.word.now a.output.now d h;
+      within = tt;
+      writes = other-written a.word.now a.output.now d h;
+    }
 
 pub returns-then-output-n : goal.returns-then-output-n
 returns-then-output-n c = let a = c.args in
     let d = sym c.is_dash.ensures ∙ c.if-is_dash.false in
-    (c.no_length-then-output-n.ensures ∙ short-length a.word.now a.output.now d c.if-output-n.true, rw c.no_length-then-output-n.ensures zero-le, short-written a.word.now a.output.now d c.if-output-n.true)
+    record {
+      says = short-length a.word.now a.output.now d c.if-output-n.true;
+      within = tt;
+      writes = short-written a.word.now a.output.now d c.if-output-n.true;
+    }
 
 pub decode-requires : goal.decode-requires
 decode-requires c = (all-hex-of c.args.word.now (sym c.is_hex_bytes.ensures ∙ c.if-not-is_hex_bytes.false), c.if-output-n.false)
@@ -27,4 +39,8 @@ returns c = let a = c.args in
     let d = sym c.is_dash.ensures ∙ c.if-is_dash.false in
     let h = sym c.is_hex_bytes.ensures ∙ c.if-not-is_hex_bytes.false in
     let le = c.if-output-n.false in
-    (some-length a.word.now a.output.now d h le, le, c.decode.ensures ∙ some_written a.word.now a.output.now d h le)
+    record {
+      says = some-length a.word.now a.output.now d h le;
+      within = le;
+      writes = c.decode.ensures ∙ some_written a.word.now a.output.now d h le;
+    }

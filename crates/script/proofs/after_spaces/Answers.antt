@@ -1,5 +1,5 @@
 use mathlib.Core.Path.{refl}
-use Prim.Native.Nat.{◌-◌, zero-le}
+use Prim.Native.Nat.{zero-le}
 use native.Mathlib.Omega.{arith}
 use Rattle.script.proofs.Lines.{after-here, after_one, after-no, after-all}
 use Rattle.script.proofs.after_spaces.Goals as goal

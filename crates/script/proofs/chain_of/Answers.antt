@@ -1,5 +1,4 @@
 use mathlib.Core.Path.{refl}
-use Prim.Native.Nat.{◌-◌}
 use native.Mathlib.Omega.{arith}
 use Rattle.loops.proofs.Places.{placed-none, filled_more, filled-all}
 use Rattle.script.proofs.chain_of.Goals as goal

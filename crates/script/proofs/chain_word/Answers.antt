@@ -1,5 +1,5 @@
 use mathlib.Core.Path.{◌≡◌, ap, ◌∙◌}
-use Prim.Native.Nat.{ℕ, ◌-◌}
+use Prim.Native.Nat.{ℕ}
 use native.Mathlib.Omega.{arith}
 use Rattle.script.specs.Numbers.{highest_first}
 use Rattle.script.proofs.Chains.{highest-none, highest-lt, highest-fits, highest-more}

@@ -1,4 +1,4 @@
-use Prim.Native.Nat.{◌-◌, zero-le}
+use Prim.Native.Nat.{zero-le}
 use native.Mathlib.Omega.{arith}
 use Rattle.script.proofs.Places.{sought-none, found_here, sought-more, sought-all}
 use Rattle.script.proofs.place.Goals as goal

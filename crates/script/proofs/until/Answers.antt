@@ -1,4 +1,4 @@
-use Prim.Native.Nat.{◌-◌, zero-le}
+use Prim.Native.Nat.{zero-le}
 use native.Mathlib.Omega.{arith}
 use Rattle.script.proofs.Lines.{before-none, before_here, before_more, before-all}
 use Rattle.script.proofs.until.Goals as goal
