@@ -3,7 +3,7 @@
 
 pub mod reading;
 
-ghost use Rattle.std.specs.Prelude.{◌+◌, ◌-◌, ◌≤◌};
+ghost use Rattle.std.specs.Prelude.{◌+◌, ◌-◌, ◌≤◌, length};
 ghost use Rattle.receipts.specs.Receipt.{receipt_bytes, digest_place, length_place};
 
 use finalization::{DIGEST, LENGTH, RECEIPT};
@@ -13,17 +13,32 @@ use runs::Engine;
 // The bytes of the longest digest, which is also the longest tag.
 const LONGEST: usize = LENGTH - DIGEST;
 
+// What is printed of a file.
 #[derive(Clone, Copy)]
 pub struct Fingerprint {
-    // Whether the file could be read.
-    pub good: bool,
     // The receipt, or the tag at the front.
-    pub bytes: [u8; RECEIPT],
+    bytes: [u8; RECEIPT],
     // The part of the bytes that is printed.
-    pub from: usize,
-    pub to: usize,
+    from: usize,
+    to: usize,
     // The length of the file in bits.
     pub bits: u64,
+    ghost part: { (from ≤ to) × (to ≤ receipt_bytes) },
+}
+
+impl Fingerprint {
+    // The bytes that are printed.
+    #[tactic(auto, unfolding(receipts::specs::Receipt::receipt_bytes))]
+    pub fn shown(&self) -> &[u8]
+        ensures { length result.now ≤ receipt_bytes }
+    {
+        &self.bytes[self.from..self.to]
+    }
+
+    // The receipt, where one was made.
+    pub fn receipt(&self) -> [u8; RECEIPT] {
+        self.bytes
+    }
 }
 
 // What is asked for: the word size, the digest length, whether the digest alone, and whether standard input is read for something else than a file.
@@ -35,88 +50,54 @@ pub struct Kind {
     pub input_taken: bool,
 }
 
-// What is printed of the file of a name. A key is not empty, and without one a receipt is made.
-pub fn of_file(rt: &HostRuntime, k: Kind, key: &[u8], name: &[u8]) -> Fingerprint
-    ensures { (result.from ≤ result.to) × (result.to ≤ receipt_bytes) }
-{
+// What is printed of the file of a name; nothing where it cannot be read, which is said. A key is not empty, and without one a receipt is made.
+pub fn of_file(rt: &HostRuntime, k: Kind, key: &[u8], name: &[u8]) -> Option<Fingerprint> {
     let engine = runs::faster_engine(k.w);
     let opened = started(engine, k.w, k.n, key);
-    let t = reading::read_file(rt, engine, name, k.input_taken, opened);
-    if !t.good {
-        return none();
+    let r = reading::read_file(rt, engine, name, k.input_taken, opened)?;
+    if key.is_empty() {
+        return Some(of_record(engine, r, k.digest));
     }
-    if key.len() != 0 {
-        return tagged(
-            engine,
-            t.record,
-            bits_since(opened.total, t.record.total),
-            key,
-        );
-    }
-    of_record(engine, t.record, k.digest)
+    Some(tagged(engine, r, bits_since(opened.total, r.total), key))
 }
 
 // The record to which a file is appended.
 fn started(engine: Engine, w: u64, n: u64, key: &[u8]) -> Record {
-    if key.len() == 0 {
-        let o = record::open(engine, w, n);
-        return o.next;
+    if key.is_empty() {
+        return record::open(engine, w, n).next;
     }
-    let o = tag::start(engine, w, n, key);
-    o.next
-}
-
-fn none() -> Fingerprint
-    ensures { (result.from ≤ result.to) × (result.to ≤ receipt_bytes) }
-{
-    Fingerprint {
-        good: false,
-        bytes: [0u8; RECEIPT],
-        from: 0,
-        to: 0,
-        bits: 0,
-    }
+    tag::start(engine, w, n, key).next
 }
 
 // The receipt of a record, or its digest alone.
 #[tactic(auto, unfolding(receipts::specs::Receipt::receipt_bytes))]
-fn of_record(engine: Engine, r: Record, digest_alone: bool) -> Fingerprint
-    ensures { (result.from ≤ result.to) × (result.to ≤ receipt_bytes) }
-{
+fn of_record(engine: Engine, r: Record, digest_alone: bool) -> Fingerprint {
     let mut receipt = [0u8; RECEIPT];
     close::close(engine, r, 0, 0, &mut receipt);
+    let bits = same::bit_length_of(&receipt);
     if digest_alone {
-        return shown(
-            receipt,
-            DIGEST,
-            digest_bytes(r.n),
-            same::bit_length_of(&receipt),
-        );
+        return part(receipt, DIGEST, digest_bytes(r.n), bits);
     }
-    shown(receipt, 0, RECEIPT, same::bit_length_of(&receipt))
+    part(receipt, 0, RECEIPT, bits)
 }
 
 #[tactic(auto, unfolding(receipts::specs::Receipt::receipt_bytes))]
-fn tagged(engine: Engine, r: Record, bits: u64, key: &[u8]) -> Fingerprint
-    ensures { (result.from ≤ result.to) × (result.to ≤ receipt_bytes) }
-{
+fn tagged(engine: Engine, r: Record, bits: u64, key: &[u8]) -> Fingerprint {
     let mut tag = [0u8; RECEIPT];
     tag::finish(engine, r, key, &mut tag);
-    shown(tag, 0, digest_bytes(r.n), bits)
+    part(tag, 0, digest_bytes(r.n), bits)
 }
 
 // Some of the bytes, from a place on.
 #[tactic(auto, unfolding(receipts::specs::Receipt::receipt_bytes))]
-fn shown(bytes: [u8; RECEIPT], from: usize, size: usize, bits: u64) -> Fingerprint
+fn part(bytes: [u8; RECEIPT], from: usize, size: usize, bits: u64) -> Fingerprint
     requires { from + size ≤ receipt_bytes }
-    ensures { (result.from ≤ result.to) × (result.to ≤ receipt_bytes) }
 {
     Fingerprint {
-        good: true,
-        bytes: bytes,
-        from: from,
+        bytes,
+        from,
         to: from + size,
-        bits: bits,
+        bits,
     }
 }
 
@@ -132,6 +113,5 @@ pub fn digest_bytes(n: u64) -> usize
     if runs::longest_digest(64) < n {
         return LONGEST;
     }
-    let bytes = (n + 7) / 8;
-    bytes as usize
+    n.div_ceil(8) as usize
 }

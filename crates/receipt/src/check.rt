@@ -48,33 +48,30 @@ enum Listed<'a> {
 
 // Checks the lines of the list of a name, and answers whether all are right.
 pub fn list(job: &Job, name: Name) -> Result<bool, Unwritten> {
-    let Some(mut source) = reading::open_file(job.rt, name.bytes, job.input_taken) else {
+    let Some(source) = reading::open_file(job.rt, name.bytes, job.input_taken) else {
         return Ok(false);
     };
     let mut job = *job;
     job.input_taken |= files::is_standard_input(name.bytes);
-    let found = each(&job, &mut source);
-    files::close(source);
-    Ok(verdict(job.rt, name.bytes, found?))
+    let found = each(&job, source)?;
+    Ok(verdict(job.rt, name.bytes, found))
 }
 
 #[tactic(auto, unfolding(crate::specs::Sizes::line_bytes, receipts::specs::Receipt::receipt_bytes))]
-fn each(job: &Job, source: &mut Source) -> Result<Found, Unwritten> {
-    let mut chunk = io::large_buffer();
-    let mut line = line::buffer();
+fn each(job: &Job, source: Source) -> Result<Found, Unwritten> {
+    let mut lines = lines::of(source);
+    let mut room = line::buffer();
     let mut found = Found::nothing();
-    let mut p = lines::start();
     for turn in 0..u64::MAX {
-        p = lines::go_on(p, source, LINE, &mut chunk, &mut line);
-        match line.get(..lines::ended_bytes(p)) {
-            Some(line) => found.add(line_of(job, line)?),
-            None => found.add(Finding::NoLine),
-        }
-        if !p.more {
-            break;
+        match lines.next(&mut room) {
+            Ok(Some(n)) => found.add(line_of(job, &room, n)?),
+            Ok(None) => break,
+            Err(e) => {
+                found.failed = Some(e);
+                break;
+            }
         }
     }
-    found.failed = p.failed;
     Ok(found)
 }
 
@@ -120,10 +117,14 @@ impl Found {
     }
 }
 
-// What is found of a line. A list may come from a system whose lines end in a carriage return; elsewhere in a line none was printed.
-fn line_of(job: &Job, line: &[u8]) -> Result<Finding, Unwritten>
-    requires { length line.now ≤ line_bytes }
+// What is found of the line of n bytes at the front of its room; one that is longer than the room was never printed. A list may come from a system whose
+// lines end in a carriage return; elsewhere in a line none was printed.
+fn line_of(job: &Job, room: &[u8], n: usize) -> Result<Finding, Unwritten>
+    requires { line_bytes ≡ length room.now }
 {
+    let Some(line) = room.get(..n) else {
+        return Ok(Finding::NoLine);
+    };
     let text = match line {
         [] | [b'#', ..] | b"\r" => return Ok(Finding::Nothing),
         [text @ .., b'\r'] => text,
@@ -157,14 +158,11 @@ fn entry_of(job: &Job, line: &[u8]) -> Result<Finding, Unwritten>
 
 // Whether the file of a name is as listed. A receipt is that of the file with its own w and n.
 fn file(job: &Job, listed: Listed, bits: Option<u64>, name: Name) -> Verdict {
-    let f = fingerprint::of_file(job.rt, listed.kind(job), job.key, name.bytes);
-    if !f.good {
-        return Verdict::Unread;
+    match fingerprint::of_file(job.rt, listed.kind(job), job.key, name.bytes) {
+        Some(f) if bits.unwrap_or(f.bits) == f.bits && listed.agrees(f) => Verdict::Right,
+        Some(_) => Verdict::Wrong,
+        None => Verdict::Unread,
     }
-    if bits.is_some_and(|bits| bits != f.bits) || !listed.agrees(f) {
-        return Verdict::Wrong;
-    }
-    Verdict::Right
 }
 
 impl<'a> Listed<'a> {
@@ -204,13 +202,10 @@ impl<'a> Listed<'a> {
     }
 
     // Whether that is listed which is made of the file now. Receipts are compared by Same; of a digest or a tag every byte is compared, as in the check of a tag.
-    #[tactic(auto, unfolding(receipts::specs::Receipt::receipt_bytes))]
-    fn agrees(&self, f: Fingerprint) -> bool
-        requires { (f.from ≤ f.to) × (f.to ≤ receipt_bytes) }
-    {
+    fn agrees(&self, f: Fingerprint) -> bool {
         match self {
-            Listed::Receipt(receipt) => same::same(receipt, &f.bytes).same,
-            Listed::Part(bytes) => buffers::equal_bytes(bytes, &f.bytes[f.from..f.to]),
+            Listed::Receipt(receipt) => same::same(receipt, &f.receipt()).same,
+            Listed::Part(bytes) => buffers::equal_bytes(bytes, f.shown()),
         }
     }
 }

@@ -68,14 +68,11 @@ impl<'a> Entry<'a> {
     pub fn name<'b>(&self, room: &'b mut [u8]) -> Option<Name<'b>>
         requires { line_bytes ≡ length room.old }
     {
-        if self.escaped {
-            let u = names::read(self.text, room);
-            if !u.is {
-                return None;
-            }
-            return Name::new(&room[..u.size]);
-        }
-        let size = buffers::put(room, 0, self.text);
+        let size = if self.escaped {
+            names::read(self.text, room)?
+        } else {
+            buffers::put(room, 0, self.text)
+        };
         Name::new(&room[..size])
     }
 }

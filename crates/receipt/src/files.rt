@@ -4,11 +4,12 @@ use crate::line::Unwritten;
 use crate::list::List;
 use crate::name::Name;
 use crate::{arguments, check, line, messages};
-use program::status;
+use program::arguments::Argument;
+use program::status::Status;
 
 // Does what is asked for with each file, and answers how that ended.
-pub fn all(job: &Job) -> u64 {
-    status::of(all_well(job) == Ok(true))
+pub fn all(job: &Job) -> Status {
+    Status::from(all_well(job) == Ok(true))
 }
 
 // Whether all goes well with the files and with their tally. Once something could not be written, nothing more is done.
@@ -23,23 +24,20 @@ fn all_well(job: &Job) -> Result<bool, Unwritten> {
 
 // Whether all goes well with each file. The receipts that are made are put into the list.
 fn each(job: &Job, list: &mut List) -> Result<bool, Unwritten> {
-    let end = program::arguments::count(job.rt);
     let mut good = true;
-    let mut t = program::arguments::start();
-    for i in 1..end {
-        t = arguments::next(job.rt, t, i);
-        if t.is == program::arguments::FILE {
-            good &= argument(job, i, list)?;
+    for argument in arguments::all(job.rt) {
+        if let Argument::File(i) = argument {
+            good &= of_argument(job, i, list)?;
         }
     }
     Ok(good)
 }
 
 // Does what is asked for with the file that argument i names.
-fn argument(job: &Job, i: usize, list: &mut List) -> Result<bool, Unwritten> {
+fn of_argument(job: &Job, i: usize, list: &mut List) -> Result<bool, Unwritten> {
     let mut text = io::buffer();
     match program::arguments::get(job.rt, i, &mut text) {
-        Some(n) => named(job, Name { bytes: &text[..n] }, list),
+        Some(bytes) => named(job, Name { bytes }, list),
         None => {
             messages::say_alone(job.rt, b"a file's name is too long");
             Ok(false)
@@ -56,14 +54,12 @@ fn named(job: &Job, name: Name, list: &mut List) -> Result<bool, Unwritten> {
 }
 
 // Prints the line of a file.
-#[tactic(auto, unfolding(receipts::specs::Receipt::receipt_bytes))]
 fn print(job: &Job, name: Name, list: &mut List) -> Result<bool, Unwritten> {
-    let f = fingerprint::of_file(job.rt, job.kind(), job.key, name.bytes);
-    if !f.good {
+    let Some(f) = fingerprint::of_file(job.rt, job.kind(), job.key, name.bytes) else {
         return Ok(false);
-    }
-    let bits = if job.asked.length { Some(f.bits) } else { None };
-    line::print(job.rt, &f.bytes[f.from..f.to], bits, name)?;
-    list.keep(f.bytes);
+    };
+    let bits = job.asked.length.then_some(f.bits);
+    line::print(job.rt, f.shown(), bits, name)?;
+    list.keep(f.receipt());
     Ok(true)
 }

@@ -3,7 +3,7 @@ ghost use Rattle.std.specs.Prelude.{◌≡◌, ◌≤◌, length, IfSome, IfOk};
 ghost use Rattle.receipt.specs.Sizes.{key_room};
 
 use crate::messages;
-use crate::options::KeyName;
+use program::arguments::Start;
 use program::files::Source;
 use program::{arguments, files};
 use std::io::{Read, Result};
@@ -29,13 +29,13 @@ pub fn buffer() -> [u8; KEY_ROOM]
 }
 
 // Reads the key into the room from the file that an option names; nothing where that makes no key, which is said.
-pub fn read(rt: &HostRuntime, file: KeyName, room: &mut [u8]) -> Option<Key>
+pub fn read(rt: &HostRuntime, file: Start, room: &mut [u8]) -> Option<Key>
     requires { key_room ≡ length room.old }
     ensures { IfSome result (λ k. k.size ≤ key_room) }
 {
     let mut text = io::buffer();
     match arguments::get(rt, file.argument, &mut text) {
-        Some(n) => named(rt, arguments::from(&text[..n], file.byte), room),
+        Some(path) => named(rt, arguments::from(path, file.byte), room),
         None => {
             messages::say(rt, b"--key", b"the file's name is too long");
             None

@@ -17,6 +17,7 @@ mod options;
 use job::Job;
 use options::Asked;
 use program::status;
+use program::status::Status;
 
 fn main(rt: HostRuntime) {
     let s = match options::read(&rt) {
@@ -27,7 +28,7 @@ fn main(rt: HostRuntime) {
 }
 
 // Does what is asked for, and answers how it ended. The key is read first.
-fn run(rt: &HostRuntime, asked: Asked) -> u64 {
+fn run(rt: &HostRuntime, asked: Asked) -> Status {
     let mut room = key::buffer();
     match asked.key {
         Some(file) => match key::read(rt, file, &mut room) {
@@ -37,7 +38,7 @@ fn run(rt: &HostRuntime, asked: Asked) -> u64 {
                 key: &room[..key.size],
                 input_taken: key.is_input,
             }),
-            None => status::FAILED,
+            None => Status::Failed,
         },
         None => files::all(&Job {
             rt,

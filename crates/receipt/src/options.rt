@@ -1,48 +1,38 @@
 // What the options ask for, and whether they suit each other.
+use crate::arguments::{Flag, Is, Valued};
 use crate::{arguments, messages};
-use fingerprint::Kind;
-use program::arguments::{Argument, FILE, UNKNOWN, VALUED, from};
-use program::status;
+use program::arguments::{Argument, Start, from};
+use program::status::Status;
 
 #[derive(Clone, Copy)]
 pub struct Asked {
     pub w: u64,
     // The digest length; where none is asked for the longest of the word size.
     n: Option<u64>,
-    // Where the name of the key's file stands, if there is a key.
-    pub key: Option<KeyName>,
+    // Where the name of the key's file begins, if there is a key.
+    pub key: Option<Start>,
     pub check: bool,
     pub digest: bool,
     pub length: bool,
     pub tally: bool,
     // How many files are named.
-    files: u64,
-}
-
-// The argument that names the key's file, and the place there where the name begins.
-#[derive(Clone, Copy, Debug, PartialEq, Eq)]
-pub struct KeyName {
-    pub argument: usize,
-    pub byte: usize,
+    files: usize,
 }
 
 // What is asked for; or, where an option is wrong or asks for something else, how the program ends.
-pub fn read(rt: &HostRuntime) -> Result<Asked, u64> {
+pub fn read(rt: &HostRuntime) -> Result<Asked, Status> {
     let asked = read_all(rt)?;
     if is_right(rt, &asked) {
         Ok(asked)
     } else {
-        Err(status::MISUSED)
+        Err(Status::Misused)
     }
 }
 
-fn read_all(rt: &HostRuntime) -> Result<Asked, u64> {
-    let end = program::arguments::count(rt);
+fn read_all(rt: &HostRuntime) -> Result<Asked, Status> {
     let mut asked = Asked::nothing();
-    let mut t = program::arguments::start();
-    for i in 1..end {
-        t = arguments::next(rt, t, i);
-        asked.take(rt, t, i)?;
+    for argument in arguments::all(rt) {
+        asked.take(rt, argument)?;
     }
     Ok(asked)
 }
@@ -61,24 +51,32 @@ impl Asked {
         }
     }
 
-    // Takes argument i in.
-    fn take(&mut self, rt: &HostRuntime, t: Argument, i: usize) -> Result<(), u64> {
-        match t.is {
-            arguments::WORD_SIZE => self.w = word_size(rt, t)?,
-            arguments::BITS => self.n = Some(bits(rt, t)?),
-            arguments::KEY => self.key = Some(key_file(rt, t)?),
-            arguments::CHECK | arguments::CHECK_LONG => self.check = true,
-            arguments::DIGEST => self.digest = true,
-            arguments::LENGTH => self.length = true,
-            arguments::TALLY => self.tally = true,
-            arguments::HELP | arguments::HELP_LONG => return Err(status::HELP),
-            arguments::VERSION => return Err(status::VERSION),
-            FILE => self.files = self.files.saturating_add(1),
-            UNKNOWN | VALUED => {
-                program::arguments::say_no_option(rt, b"receipt", i, t.is);
-                return Err(status::MISUSED);
+    // Takes one argument in.
+    fn take(&mut self, rt: &HostRuntime, argument: Is) -> Result<(), Status> {
+        match argument {
+            Argument::Flag(flag) => self.set(flag)?,
+            Argument::Valued(Valued::WordSize, start) => self.w = word_size(rt, start)?,
+            Argument::Valued(Valued::Bits, start) => self.n = Some(bits(rt, start)?),
+            Argument::Valued(Valued::Key, start) => self.key = Some(key_file(rt, start)?),
+            Argument::Wrong(i, why) => {
+                program::arguments::say_wrong(rt, b"receipt", i, why);
+                return Err(Status::Misused);
             }
-            _ => {}
+            Argument::File(_) => self.files = self.files.saturating_add(1),
+            Argument::Value | Argument::End => {}
+        }
+        Ok(())
+    }
+
+    // Takes in an option without a value. Help and the version end the program.
+    fn set(&mut self, flag: Flag) -> Result<(), Status> {
+        match flag {
+            Flag::Check => self.check = true,
+            Flag::Digest => self.digest = true,
+            Flag::Length => self.length = true,
+            Flag::Tally => self.tally = true,
+            Flag::Help => return Err(Status::Help),
+            Flag::Version => return Err(Status::Version),
         }
         Ok(())
     }
@@ -93,49 +91,46 @@ impl Asked {
 }
 
 // The option -w.
-fn word_size(rt: &HostRuntime, t: Argument) -> Result<u64, u64> {
-    let w = number(rt, b"-w", t)?;
+fn word_size(rt: &HostRuntime, start: Start) -> Result<u64, Status> {
+    let w = number(rt, b"-w", start)?;
     if !runs::is_word_size(w) {
         messages::number_wrong(rt, b"-w", w, b"the word size is 32 or 64");
-        return Err(status::MISUSED);
+        return Err(Status::Misused);
     }
     Ok(w)
 }
 
 // The option -n. Whether its value suits the word size is known after all options.
-fn bits(rt: &HostRuntime, t: Argument) -> Result<u64, u64> {
-    let n = number(rt, b"-n", t)?;
+fn bits(rt: &HostRuntime, start: Start) -> Result<u64, Status> {
+    let n = number(rt, b"-n", start)?;
     if n == 0 {
         messages::number_wrong(rt, b"-n", 0, b"a digest has 1 bit at least");
-        return Err(status::MISUSED);
+        return Err(Status::Misused);
     }
     Ok(n)
 }
 
 // The value of an option as a number; says what is wrong if it is none.
-fn number(rt: &HostRuntime, option: &[u8], t: Argument) -> Result<u64, u64> {
-    let mut text = io::buffer();
-    let Some(n) = program::arguments::get(rt, t.value, &mut text) else {
+fn number(rt: &HostRuntime, option: &[u8], start: Start) -> Result<u64, Status> {
+    let mut room = io::buffer();
+    let Some(text) = program::arguments::get(rt, start.argument, &mut room) else {
         messages::say(rt, option, b"a number is missing after it");
-        return Err(status::MISUSED);
+        return Err(Status::Misused);
     };
-    let value = from(&text[..n], t.from);
+    let value = from(text, start.byte);
     script::read_number(value).ok_or_else(|| {
         messages::value_wrong(rt, option, value, b"this is no number, or is too large");
-        status::MISUSED
+        Status::Misused
     })
 }
 
 // The option --key. Its file is read after all options.
-fn key_file(rt: &HostRuntime, t: Argument) -> Result<KeyName, u64> {
-    if program::arguments::count(rt) <= t.value {
+fn key_file(rt: &HostRuntime, start: Start) -> Result<Start, Status> {
+    if program::arguments::is_missing(rt, start.argument) {
         messages::say(rt, b"--key", b"a file is missing after it");
-        return Err(status::MISUSED);
+        return Err(Status::Misused);
     }
-    Ok(KeyName {
-        argument: t.value,
-        byte: t.from,
-    })
+    Ok(start)
 }
 
 // Whether a file is named and the options suit each other; says what is wrong if not.
@@ -178,7 +173,7 @@ fn suits_tally(rt: &HostRuntime, asked: &Asked) -> bool {
         );
         return false;
     }
-    if (tally::MOST_RECEIPTS as u64) < asked.files {
+    if tally::MOST_RECEIPTS < asked.files {
         messages::say_alone(rt, b"--tally takes 960 files at most");
         return false;
     }

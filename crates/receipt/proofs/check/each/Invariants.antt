@@ -4,4 +4,4 @@ use Rattle.receipt.specs.Found.{counted}
 use Rattle.receipt.proofs.check.each.Given as goal
 
 abbrev pub invariant-loop-turn : goal.invariant-loop-turn
-invariant-loop-turn l = (counted l.found ≤ l.turn) × (length l.line ≡ length l.initial.line) × (l.p.from ≤ l.p.to) × (l.p.to ≤ length l.chunk)
+invariant-loop-turn l = (counted l.found ≤ l.turn) × (length l.room ≡ length l.initial.room)
