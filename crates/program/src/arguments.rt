@@ -3,6 +3,7 @@ ghost use Rattle.std.specs.Prelude.{◌-◌, ◌≤◌, length, IfSome};
 ghost use Rattle.std.specs.Iterator.{at_most};
 
 use crate::messages;
+use std::convert::Infallible;
 use std::env::FillError;
 use std::marker::PhantomData;
 use std::rt::Env;
@@ -10,6 +11,13 @@ use std::rt::Env;
 // Options of a program, by their names.
 pub trait Named {
     fn of_name(name: &[u8]) -> Option<Self>;
+}
+
+// What a program has for the options that take a value, where it has none such.
+impl Named for Infallible {
+    fn of_name(_name: &[u8]) -> Option<Infallible> {
+        None
+    }
 }
 
 // What an argument is. F has the program's options that take no value, and V those that take one.

@@ -32,16 +32,18 @@ pub fn of(source: Source) -> Lines {
 }
 
 impl Lines {
-    // Reads a line into the room, and answers how many bytes it has; nothing where the file has ended. Of a line that is longer than the room the answer is
-    // more than the room has. The line that the file ends in may lack the newline.
+    // Reads a line into the room, and answers how many bytes it has; nothing where the file has ended. Of a line of more than the most bytes the answer is
+    // more than the most. The line that the file ends in may lack the newline.
     // A proved loop has to end, and nothing says that a line does, so the turns are counted up to a number that no run comes to.
-    pub fn next(&mut self, room: &mut [u8]) -> Result<Option<usize>> {
+    pub fn next(&mut self, room: &mut [u8], most: usize) -> Result<Option<usize>>
+        requires { most ≤ length room.old }
+    {
         let mut size = 0;
         for _ in 0..u64::MAX {
             if self.from == self.to && !self.read()? {
                 break;
             }
-            size = self.take_in(size, room);
+            size = self.take_in(size, room, most);
             if self.take_newline() {
                 return Ok(Some(size));
             }
@@ -62,10 +64,12 @@ impl Lines {
     }
 
     // Takes in the chunk up to the first newline or to its end, behind the bytes that the line has so far, and answers how many it has then.
-    fn take_in(&mut self, size: usize, room: &mut [u8]) -> usize {
+    fn take_in(&mut self, size: usize, room: &mut [u8], most: usize) -> usize
+        requires { most ≤ length room.old }
+    {
         let rest = &self.chunk[self.from..self.to];
         let n = script::until(rest, b'\n');
-        let joined = join(size, &rest[..n], room);
+        let joined = join(size, &rest[..n], room, most);
         self.from += n;
         joined
     }
@@ -81,8 +85,9 @@ impl Lines {
 }
 
 // Puts a piece behind the bytes that the line has so far, and answers how many it has with it. Of a line that is too long nothing more is kept.
-fn join(size: usize, piece: &[u8], room: &mut [u8]) -> usize {
-    let most = room.len();
+fn join(size: usize, piece: &[u8], room: &mut [u8], most: usize) -> usize
+    requires { most ≤ length room.old }
+{
     if most < size {
         return size;
     }

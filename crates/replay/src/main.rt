@@ -147,7 +147,7 @@ fn replay(
     let mut lines = lines::of(source);
     let mut unread = None;
     for _ in 0..u64::MAX {
-        match lines.next(&mut line[..LINE]) {
+        match lines.next(line, LINE) {
             Ok(Some(n)) => k = answer(rt, k, n, line, given, lent),
             Ok(None) => break,
             Err(e) => {
