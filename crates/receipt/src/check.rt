@@ -62,7 +62,7 @@ fn each(job: &Job, source: Source) -> Result<Found, Unwritten> {
     let mut lines = lines::of(source);
     let mut room = line::buffer();
     let mut found = Found::nothing();
-    for turn in 0..u64::MAX {
+    for _ in 0..u64::MAX {
         match lines.next(&mut room, LINE) {
             Ok(Some(n)) => found.add(line_of(job, &room, n)?),
             Ok(None) => break,

@@ -3,5 +3,5 @@ use Rattle.std.proofs.Common.{length, ◌≤◌, ◌≡◌}
 use Rattle.receipt.specs.Found.{counted}
 use Rattle.receipt.proofs.check.each.Given as goal
 
-abbrev pub invariant-loop-turn : goal.invariant-loop-turn
-invariant-loop-turn l = (counted l.found ≤ l.turn) × (length l.room ≡ length l.initial.room)
+abbrev pub invariant-loop : goal.invariant-loop
+invariant-loop l = (counted l.found ≤ l.counter) × (length l.room ≡ length l.initial.room)
