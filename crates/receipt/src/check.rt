@@ -1,10 +1,7 @@
 // Lines that were printed before, checked: whether each is what would be printed of its file now.
 ghost use Rattle.std.specs.Prelude.{◌≡◌, ◌+◌, ◌<◌, ◌≤◌, length};
-ghost use Rattle.receipts.specs.Receipt.{receipt_bytes};
 ghost use Rattle.receipt.specs.Found.{counted};
-ghost use Rattle.receipt.specs.Sizes.{line_bytes};
 
-use crate::entry::Entry;
 use crate::job::Job;
 use crate::line::{LINE, Unwritten, Verdict};
 use crate::name::Name;
@@ -57,10 +54,9 @@ pub fn list(job: &Job, name: Name) -> Result<bool, Unwritten> {
     Ok(verdict(job.rt, name.bytes, found))
 }
 
-#[tactic(auto, unfolding(crate::specs::Sizes::line_bytes, receipts::specs::Receipt::receipt_bytes))]
 fn each(job: &Job, source: Source) -> Result<Found, Unwritten> {
     let mut lines = lines::of(source);
-    let mut room = line::buffer();
+    let mut room = [0u8; LINE];
     let mut found = Found::nothing();
     for _ in 0..u64::MAX {
         match lines.next(&mut room, LINE) {
@@ -119,9 +115,7 @@ impl Found {
 
 // What is found of the line of n bytes at the front of its room; one that is longer than the room was never printed. A list may come from a system whose
 // lines end in a carriage return; elsewhere in a line none was printed.
-fn line_of(job: &Job, room: &[u8], n: usize) -> Result<Finding, Unwritten>
-    requires { line_bytes ≡ length room.now }
-{
+fn line_of(job: &Job, room: &[u8; LINE], n: usize) -> Result<Finding, Unwritten> {
     let Some(line) = room.get(..n) else {
         return Ok(Finding::NoLine);
     };
@@ -138,7 +132,7 @@ fn line_of(job: &Job, room: &[u8], n: usize) -> Result<Finding, Unwritten>
 
 // What is found of a line that is neither empty nor a comment.
 fn entry_of(job: &Job, line: &[u8]) -> Result<Finding, Unwritten>
-    requires { length line.now ≤ line_bytes }
+    requires { length line.now ≤ LINE }
 {
     let Some(entry) = entry::parts(line) else {
         return Ok(Finding::NoLine);
@@ -147,7 +141,7 @@ fn entry_of(job: &Job, line: &[u8]) -> Result<Finding, Unwritten>
     let Some(listed) = Listed::read(job, entry.digits, &mut bytes) else {
         return Ok(Finding::NoLine);
     };
-    let mut room = line::buffer();
+    let mut room = [0u8; LINE];
     let Some(name) = entry.name(&mut room) else {
         return Ok(Finding::NoLine);
     };
@@ -181,7 +175,7 @@ impl<'a> Listed<'a> {
                 None
             };
         }
-        if bytes.len() == fingerprint::digest_bytes(job.asked.bits()) {
+        if bytes.len() == fingerprint::digest_bytes(job.asked.digest_length()) {
             return Some(Listed::Part(bytes));
         }
         None

@@ -1,7 +1,8 @@
 // A line of a list taken apart: what was printed of a file, its length if that was printed, and its name.
-ghost use Rattle.std.specs.Prelude.{◌≡◌, ◌+◌, ◌≤◌, length, IfSome};
-ghost use Rattle.receipt.specs.Sizes.{line_bytes};
+ghost use Rattle.std.specs.Prelude.{◌≤◌, length, IfSome};
+ghost use Rattle.receipt.specs.declared.line.TheConstants.{LINE};
 
+use crate::line::LINE;
 use crate::name::Name;
 use program::names;
 
@@ -15,12 +16,12 @@ pub struct Entry<'a> {
     // The name as it is printed, and whether it is escaped.
     text: &'a [u8],
     escaped: bool,
-    ghost short: { length text.now ≤ line_bytes },
+    ghost short: { length text.now ≤ LINE },
 }
 
 // The parts of a line: a backslash if the name is escaped, digits, a space and the length if there is one, two spaces, and the name.
 pub fn parts(line: &[u8]) -> Option<Entry>
-    requires { length line.now ≤ line_bytes }
+    requires { length line.now ≤ LINE }
 {
     let (escaped, rest) = match line {
         [b'\\', rest @ ..] => (true, rest),
@@ -64,15 +65,12 @@ fn cut_length(rest: &[u8]) -> Option<(Option<u64>, &[u8])>
 }
 
 impl<'a> Entry<'a> {
-    // The name, read into its room; nothing where it is none, or has more bytes than a name can have.
-    pub fn name<'b>(&self, room: &'b mut [u8]) -> Option<Name<'b>>
-        requires { line_bytes ≡ length room.old }
-    {
-        let size = if self.escaped {
-            names::read(self.text, room)?
-        } else {
-            buffers::put(room, 0, self.text)
-        };
+    // The name; nothing where it is none, or has more bytes than a name can have. One that is escaped is read into the room.
+    pub fn name(&self, room: &'a mut [u8; LINE]) -> Option<Name<'a>> {
+        if !self.escaped {
+            return Name::new(self.text);
+        }
+        let size = names::read(self.text, room)?;
         Name::new(&room[..size])
     }
 }

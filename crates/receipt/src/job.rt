@@ -17,7 +17,7 @@ impl<'a> Job<'a> {
     pub fn kind(&self) -> Kind {
         Kind {
             w: self.asked.w,
-            n: self.asked.bits(),
+            n: self.asked.digest_length(),
             digest: self.asked.digest,
             input_taken: self.input_taken,
         }

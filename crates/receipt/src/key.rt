@@ -1,6 +1,5 @@
 // The key, read from its file.
-ghost use Rattle.std.specs.Prelude.{◌≡◌, ◌≤◌, length, IfSome, IfOk};
-ghost use Rattle.receipt.specs.Sizes.{key_room};
+ghost use Rattle.std.specs.Prelude.{◌≤◌, length, IfSome, IfOk};
 
 use crate::messages;
 use program::arguments::Start;
@@ -11,7 +10,7 @@ use std::io::{Read, Result};
 // The most bytes of a key. There is room for one more, by which a longer key is found out.
 const KEY: usize = 65536;
 
-const KEY_ROOM: usize = KEY + 1;
+pub const ROOM: usize = KEY + 1;
 
 // A key that was read.
 #[derive(Clone, Copy, Debug, PartialEq, Eq)]
@@ -22,16 +21,9 @@ pub struct Key {
     pub is_input: bool,
 }
 
-pub fn buffer() -> [u8; KEY_ROOM]
-    ensures { key_room ≡ length result }
-{
-    [0; KEY_ROOM]
-}
-
 // Reads the key into the room from the file that an option names; nothing where that makes no key, which is said.
-pub fn read(rt: &HostRuntime, file: Start, room: &mut [u8]) -> Option<Key>
-    requires { key_room ≡ length room.old }
-    ensures { IfSome result (λ k. k.size ≤ key_room) }
+pub fn read(rt: &HostRuntime, file: Start, room: &mut [u8; ROOM]) -> Option<Key>
+    ensures { IfSome result (λ k. k.size ≤ ROOM) }
 {
     let mut text = io::buffer();
     match arguments::get(rt, file.argument, &mut text) {
@@ -44,9 +36,8 @@ pub fn read(rt: &HostRuntime, file: Start, room: &mut [u8]) -> Option<Key>
 }
 
 // The same for a file of a name.
-fn named(rt: &HostRuntime, name: &[u8], room: &mut [u8]) -> Option<Key>
-    requires { key_room ≡ length room.old }
-    ensures { IfSome result (λ k. k.size ≤ key_room) }
+fn named(rt: &HostRuntime, name: &[u8], room: &mut [u8; ROOM]) -> Option<Key>
+    ensures { IfSome result (λ k. k.size ≤ ROOM) }
 {
     let mut source = files::open(rt, b"receipt", name)?;
     let filled = fill(&mut source, room);

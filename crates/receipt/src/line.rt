@@ -2,7 +2,7 @@
 ghost use Rattle.std.specs.Prelude.{◌≡◌, ◌+◌, ◌<◌, ◌≤◌, length};
 ghost use Rattle.receipts.specs.Receipt.{receipt_bytes};
 ghost use Rattle.decimal.specs.Number.{most_digits};
-ghost use Rattle.receipt.specs.Sizes.{line_bytes, verdict_bytes};
+ghost use Rattle.receipt.specs.Sizes.{verdict_bytes};
 
 use crate::name::Name;
 use decimal::DIGITS;
@@ -10,7 +10,8 @@ use finalization::RECEIPT;
 use program::names::NAME;
 use program::{names, output};
 
-// Room for the longest line (line_bytes in specs/Sizes.antt).
+// Room for the longest line: a backslash, the digits of a receipt, a space and the length, two spaces, a name each of whose bytes is escaped, and the newline;
+// `text::put_bytes` asks for one more.
 pub const LINE: usize = 1 + (2 * RECEIPT + 1) + (1 + DIGITS) + 2 + 2 * NAME + 1;
 
 // What a check finds of a file.
@@ -44,23 +45,23 @@ pub struct Unwritten;
 pub fn print(rt: &HostRuntime, shown: &[u8], bits: Option<u64>, name: Name) -> Result<(), Unwritten>
     requires { length shown.now ≤ receipt_bytes }
 {
-    let mut line = buffer();
+    let mut line = [0; LINE];
     let end = put(&mut line, shown, bits, name);
     print_ended(rt, &mut line, end, name)
 }
 
 // Prints a name and what a check found of it.
 pub fn print_verdict(rt: &HostRuntime, name: Name, verdict: Verdict) -> Result<(), Unwritten> {
-    let mut line = buffer();
+    let mut line = [0; LINE];
     let end = put_verdict(&mut line, name, verdict);
     print_ended(rt, &mut line, end, name)
 }
 
 // Puts what a line shows into its room, after the place of a backslash, and answers where the newline comes.
-#[tactic(auto, unfolding(crate::specs::Sizes::line_bytes, receipts::specs::Receipt::receipt_bytes))]
-fn put(line: &mut [u8], shown: &[u8], bits: Option<u64>, name: Name) -> usize
-    requires { (line_bytes ≡ length line.old) × (length shown.now ≤ receipt_bytes) }
-    ensures { (1 ≤ result) × (result < line_bytes) }
+#[tactic(auto, unfolding(receipts::specs::Receipt::receipt_bytes))]
+fn put(line: &mut [u8; LINE], shown: &[u8], bits: Option<u64>, name: Name) -> usize
+    requires { length shown.now ≤ receipt_bytes }
+    ensures { (1 ≤ result) × (result < LINE) }
 {
     let a = text::put_bytes(line, 1, shown);
     let b = put_length(line, a, bits);
@@ -83,25 +84,21 @@ fn put_length(line: &mut [u8], from: usize, bits: Option<u64>) -> usize
 }
 
 // The same for a name and a verdict.
-#[tactic(auto, unfolding(crate::specs::Sizes::line_bytes, receipts::specs::Receipt::receipt_bytes))]
-fn put_verdict(line: &mut [u8], name: Name, verdict: Verdict) -> usize
-    requires { line_bytes ≡ length line.old }
-    ensures { (1 ≤ result) × (result < line_bytes) }
+fn put_verdict(line: &mut [u8; LINE], name: Name, verdict: Verdict) -> usize
+    ensures { (1 ≤ result) × (result < LINE) }
 {
     let a = names::put(line, 1, name.bytes);
     buffers::put(line, a, verdict.words())
 }
 
-#[tactic(auto, unfolding(crate::specs::Sizes::line_bytes, receipts::specs::Receipt::receipt_bytes))]
-pub fn buffer() -> [u8; LINE]
-    ensures { line_bytes ≡ length result }
-{
-    [0; LINE]
-}
-
 // Ends a line of a name, and prints it. As sha256sum does, a line whose name has an escaped byte begins with a backslash.
-fn print_ended(rt: &HostRuntime, line: &mut [u8], end: usize, name: Name) -> Result<(), Unwritten>
-    requires { (1 ≤ end) × (end < length line.old) }
+fn print_ended(
+    rt: &HostRuntime,
+    line: &mut [u8; LINE],
+    end: usize,
+    name: Name,
+) -> Result<(), Unwritten>
+    requires { (1 ≤ end) × (end < LINE) }
 {
     line[0] = b'\\';
     line[end] = b'\n';

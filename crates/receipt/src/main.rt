@@ -16,6 +16,7 @@ mod options;
 
 use job::Job;
 use options::Asked;
+use program::arguments::Start;
 use program::status;
 use program::status::Status;
 
@@ -27,24 +28,29 @@ fn main(rt: HostRuntime) {
     status::end(&rt, b"receipt", s);
 }
 
-// Does what is asked for, and answers how it ended. The key is read first.
+// Does what is asked for, and answers how it ended.
 fn run(rt: &HostRuntime, asked: Asked) -> Status {
-    let mut room = key::buffer();
     match asked.key {
-        Some(file) => match key::read(rt, file, &mut room) {
-            Some(key) => files::all(&Job {
-                rt,
-                asked,
-                key: &room[..key.size],
-                input_taken: key.is_input,
-            }),
-            None => Status::Failed,
-        },
+        Some(file) => with_key(rt, asked, file),
         None => files::all(&Job {
             rt,
             asked,
             key: b"",
             input_taken: false,
         }),
+    }
+}
+
+// Reads the key from the file that an option names, and goes on if that went well.
+fn with_key(rt: &HostRuntime, asked: Asked, file: Start) -> Status {
+    let mut room = [0; key::ROOM];
+    match key::read(rt, file, &mut room) {
+        Some(key) => files::all(&Job {
+            rt,
+            asked,
+            key: &room[..key.size],
+            input_taken: key.is_input,
+        }),
+        None => Status::Failed,
     }
 }

@@ -82,7 +82,7 @@ impl Asked {
     }
 
     // The digest length.
-    pub fn bits(&self) -> u64 {
+    pub fn digest_length(&self) -> u64 {
         match self.n {
             Some(n) => n,
             None => runs::longest_digest(self.w),
@@ -135,7 +135,7 @@ fn key_file(rt: &HostRuntime, start: Start) -> Result<Start, Status> {
 
 // Whether a file is named and the options suit each other; says what is wrong if not.
 fn is_right(rt: &HostRuntime, asked: &Asked) -> bool {
-    let n = asked.bits();
+    let n = asked.digest_length();
     if runs::longest_digest(asked.w) < n {
         messages::number_wrong(
             rt,
