@@ -169,16 +169,10 @@ impl<'a> Listed<'a> {
     fn of(job: &Job, bytes: &'a [u8]) -> Option<Listed<'a>> {
         if job.has_receipts() {
             let receipt = bytes.try_into().ok()?;
-            return if is_receipt(&receipt) {
-                Some(Listed::Receipt(receipt))
-            } else {
-                None
-            };
+            return is_receipt(&receipt).then_some(Listed::Receipt(receipt));
         }
-        if bytes.len() == fingerprint::digest_bytes(job.asked.digest_length()) {
-            return Some(Listed::Part(bytes));
-        }
-        None
+        let is_part = bytes.len() == fingerprint::digest_bytes(job.asked.digest_length());
+        is_part.then_some(Listed::Part(bytes))
     }
 
     // What is asked for of the file.
@@ -186,7 +180,7 @@ impl<'a> Listed<'a> {
     fn kind(&self, job: &Job) -> Kind {
         match self {
             Listed::Receipt(receipt) => Kind {
-                w: receipt[0] as u64,
+                w: u64::from(receipt[0]),
                 n: same::digest_length_of(receipt),
                 digest: false,
                 input_taken: job.input_taken,
