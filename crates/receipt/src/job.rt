@@ -6,13 +6,37 @@ use fingerprint::Kind;
 pub struct Job<'a> {
     pub rt: &'a HostRuntime,
     pub asked: Asked,
-    // The key with which tags are made; empty where there is none.
-    pub key: &'a [u8],
+    // The key, if there is one: tags are made then.
+    pub key: Option<&'a [u8]>,
     // Whether standard input is read for something else than the file of its name.
     pub input_taken: bool,
 }
 
 impl<'a> Job<'a> {
+    pub fn without_key(rt: &'a HostRuntime, asked: Asked) -> Job<'a> {
+        Job {
+            rt,
+            asked,
+            key: None,
+            input_taken: false,
+        }
+    }
+
+    pub fn with_key(
+        rt: &'a HostRuntime,
+        asked: Asked,
+        key: &'a [u8],
+        input_taken: bool,
+    ) -> Job<'a> {
+        let key = Some(key);
+        Job {
+            rt,
+            asked,
+            key,
+            input_taken,
+        }
+    }
+
     // What is asked for of each file.
     pub fn kind(&self) -> Kind {
         Kind {
@@ -25,6 +49,6 @@ impl<'a> Job<'a> {
 
     // Whether receipts are asked for, and not digests or tags.
     pub fn has_receipts(&self) -> bool {
-        !self.asked.digest && self.key.is_empty()
+        !self.asked.digest && self.key.is_none()
     }
 }

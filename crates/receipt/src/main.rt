@@ -32,12 +32,7 @@ fn main(rt: HostRuntime) {
 fn run(rt: &HostRuntime, asked: Asked) -> Status {
     match asked.key {
         Some(file) => with_key(rt, asked, file),
-        None => files::all(&Job {
-            rt,
-            asked,
-            key: b"",
-            input_taken: false,
-        }),
+        None => files::all(&Job::without_key(rt, asked)),
     }
 }
 
@@ -45,12 +40,7 @@ fn run(rt: &HostRuntime, asked: Asked) -> Status {
 fn with_key(rt: &HostRuntime, asked: Asked, file: Start) -> Status {
     let mut room = [0; key::ROOM];
     match key::read(rt, file, &mut room) {
-        Some(key) => files::all(&Job {
-            rt,
-            asked,
-            key: &room[..key.size],
-            input_taken: key.is_input,
-        }),
+        Some(key) => files::all(&Job::with_key(rt, asked, &room[..key.size], key.is_input)),
         None => Status::Failed,
     }
 }
