@@ -50,23 +50,22 @@ pub struct Kind {
     pub input_taken: bool,
 }
 
-// What is printed of the file of a name; nothing where it cannot be read, which is said. A key is not empty, and without one a receipt is made.
-pub fn of_file(rt: &HostRuntime, k: Kind, key: &[u8], name: &[u8]) -> Option<Fingerprint> {
+// What is printed of the file of a name, with a key its tag; nothing where it cannot be read, which is said. A key is not empty.
+pub fn of_file(rt: &HostRuntime, k: Kind, key: Option<&[u8]>, name: &[u8]) -> Option<Fingerprint> {
     let engine = runs::faster_engine(k.w);
     let opened = started(engine, k.w, k.n, key);
     let r = reading::read_file(rt, engine, name, k.input_taken, opened)?;
-    if key.is_empty() {
-        return Some(of_record(engine, r, k.digest));
-    }
-    Some(tagged(engine, r, bits_since(opened.total, r.total), key))
+    Some(match key {
+        Some(key) => tagged(engine, r, bits_since(opened.total, r.total), key),
+        None => of_record(engine, r, k.digest),
+    })
 }
 
 // The record to which a file is appended; the empty one where the call is refused.
-fn started(engine: Engine, w: u64, n: u64, key: &[u8]) -> Record {
-    let started = if key.is_empty() {
-        record::open(engine, w, n)
-    } else {
-        tag::start(engine, w, n, key)
+fn started(engine: Engine, w: u64, n: u64, key: Option<&[u8]>) -> Record {
+    let started = match key {
+        Some(key) => tag::start(engine, w, n, key),
+        None => record::open(engine, w, n),
     };
     match started {
         Ok(step) => step.next,

@@ -60,7 +60,7 @@ fn escaped_by(letter: u8) -> Option<u8> {
 }
 
 // Reads an escaped name, writes it at the output's front, and answers how many bytes it has; nothing if it is none, since a letter is missing after a
-// backslash.
+// backslash or a byte is zero.
 pub fn read(text: &[u8], output: &mut [u8]) -> Option<usize>
     requires { length text.now ≤ length output.old }
     ensures { IfSome result (λ n. n ≤ length text.now) }
@@ -79,7 +79,11 @@ pub fn read(text: &[u8], output: &mut [u8]) -> Option<usize>
     if after { None } else { Some(size) }
 }
 
-// The byte that stands there: itself, or after a backslash the one of which it is the letter.
+// The byte that stands there: itself, or after a backslash the one of which it is the letter. No name has a zero byte.
 fn byte(after: bool, c: u8) -> Option<u8> {
-    if after { escaped_by(c) } else { Some(c) }
+    match (after, c) {
+        (true, c) => escaped_by(c),
+        (false, 0) => None,
+        (false, c) => Some(c),
+    }
 }
