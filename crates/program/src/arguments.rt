@@ -1,54 +1,94 @@
 // The arguments: which are options, which are the values of options, and which name files. Options may stand anywhere before --.
-ghost use Rattle.std.specs.Prelude.{◌≤◌, length, IfSome};
+ghost use Rattle.std.specs.Prelude.{◌-◌, ◌≤◌, length, IfSome};
+ghost use Rattle.std.specs.Iterator.{at_most};
 
 use crate::messages;
+use std::convert::Infallible;
 use std::env::FillError;
+use std::marker::PhantomData;
 use std::rt::Env;
 
-// What an argument is: the place of an option in the program's table, or one of these.
-pub const UNKNOWN: usize = 1001;
-
-// An option that takes no value, with one.
-pub const VALUED: usize = 1002;
-
-// The value of the option before it.
-pub const VALUE: usize = 1003;
-
-pub const FILE: usize = 1004;
-
-// The end of the options.
-pub const END: usize = 1005;
-
-#[derive(Clone, Copy)]
-pub struct Argument {
-    pub is: usize,
-    // The argument that has the option's value, and the place there where it begins.
-    pub value: usize,
-    pub from: usize,
-    // Whether each argument after it names a file.
-    rest: bool,
+// Options of a program, by their names.
+pub trait Named: Copy {
+    fn of_name(name: &[u8]) -> Option<Self>;
 }
 
-// An argument without a value.
-fn bare(is: usize, rest: bool) -> Argument {
-    Argument {
-        is: is,
-        value: 0,
-        from: 0,
-        rest: rest,
+// What a program has for the options that take a value, where it has none such.
+impl Named for Infallible {
+    fn of_name(_name: &[u8]) -> Option<Infallible> {
+        None
     }
 }
 
-// What stands before the first argument.
-pub fn start() -> Argument {
-    bare(VALUE, false)
+// What an argument is. F has the program's options that take no value, and V those that take one.
+#[derive(Clone, Copy, Debug, PartialEq, Eq, Drop)]
+pub enum Argument<F, V> {
+    Flag(F),
+    // An option, and where its value begins.
+    Valued(V, Start),
+    // An argument that begins as an option does and is none, and why.
+    Wrong(usize, Wrong),
+    // The value of the option before it.
+    Value,
+    // An argument that names a file.
+    File(usize),
+    // The end of the options.
+    End,
+}
+
+// Where the value of an option begins: the argument, and the byte there. There may be no such argument.
+#[derive(Clone, Copy, Debug, PartialEq, Eq)]
+pub struct Start {
+    pub argument: usize,
+    pub byte: usize,
+}
+
+// Why an argument is no option.
+#[derive(Clone, Copy, Debug, PartialEq, Eq)]
+pub enum Wrong {
+    // There is none of its name.
+    Unknown,
+    // It takes no value, and has one.
+    Valued,
+}
+
+// What the arguments so far say of the next one.
+#[derive(Clone, Copy, Debug, PartialEq, Eq)]
+enum Next {
+    // It may be an option.
+    Any,
+    // It is the value of the option before it.
+    Value,
+    // The options have ended.
+    File,
+}
+
+// The arguments after the program's name, one after another.
+#[derive(Drop)]
+pub struct Arguments<'a, F, V> {
+    rt: &'a HostRuntime,
+    // The next argument, and how many there are, the program's name counted.
+    i: usize,
+    end: usize,
+    next: Next,
+    options: PhantomData<(F, V)>,
+}
+
+// The arguments of the program.
+pub fn all<F: Named, V: Named>(rt: &HostRuntime) -> Arguments<'_, F, V> {
+    Arguments {
+        rt,
+        i: 1,
+        end: count(rt),
+        next: Next::Any,
+        options: PhantomData,
+    }
 }
 
 // How many arguments there are, the program's name counted.
-pub fn count(rt: &HostRuntime) -> usize {
-    let mut room = [0u8; 1];
+fn count(rt: &HostRuntime) -> usize {
     for i in 0..usize::MAX {
-        if is_missing(rt, i, &mut room) {
+        if is_missing(rt, i) {
             return i;
         }
     }
@@ -56,144 +96,137 @@ pub fn count(rt: &HostRuntime) -> usize {
 }
 
 // Whether there is no argument i.
-fn is_missing(rt: &HostRuntime, i: usize, room: &mut [u8]) -> bool {
-    matches!(rt.arg(i, room), Err(FillError::NotPresent))
+pub fn is_missing(rt: &HostRuntime, i: usize) -> bool {
+    let mut room = [0u8; 1];
+    matches!(rt.arg(i, &mut room), Err(FillError::NotPresent))
 }
 
-// Puts argument i at the front of the text and answers how many bytes it has; nothing where it is missing or longer than the text.
-pub fn get(rt: &HostRuntime, i: usize, text: &mut [u8]) -> Option<usize>
-    ensures { IfSome result (λ n. n ≤ length text.new) }
+impl<'a, F: Named, V: Named> Iterator for Arguments<'a, F, V> {
+    type Item = Argument<F, V>;
+
+    ghost remaining = { λ s. at_most (s.end - s.i) };
+
+    fn next(&mut self) -> Option<Argument<F, V>> {
+        let i = self.i;
+        if self.end <= i {
+            return None;
+        }
+        self.i = i + 1;
+        match self.next {
+            Next::File => Some(Argument::File(i)),
+            Next::Value => {
+                self.next = Next::Any;
+                Some(Argument::Value)
+            }
+            Next::Any => {
+                let argument = read(self.rt, i, i + 1);
+                self.next = after(&argument, i);
+                Some(argument)
+            }
+        }
+    }
+}
+
+// What argument i says of the one after it.
+fn after<F, V>(argument: &Argument<F, V>, i: usize) -> Next {
+    match argument {
+        Argument::Valued(_, start) if start.argument != i => Next::Value,
+        Argument::End => Next::File,
+        _ => Next::Any,
+    }
+}
+
+// Argument i, which may be an option; next is the one after it. One that is too long is read as an empty one, which is no option.
+fn read<F: Named, V: Named>(rt: &HostRuntime, i: usize, next: usize) -> Argument<F, V> {
+    let mut text = io::buffer();
+    of_text(i, get_or_empty(rt, i, &mut text), next)
+}
+
+fn of_text<F: Named, V: Named>(i: usize, text: &[u8], next: usize) -> Argument<F, V> {
+    match text {
+        b"--" => Argument::End,
+        [b'-', _, ..] => of_option(i, text, next),
+        _ => Argument::File(i),
+    }
+}
+
+// An argument that begins as an option does.
+fn of_option<F: Named, V: Named>(i: usize, text: &[u8], next: usize) -> Argument<F, V> {
+    let (name, value) = split(text);
+    if let Some(option) = V::of_name(name) {
+        return Argument::Valued(option, value_start(i, value, next));
+    }
+    match F::of_name(name) {
+        None => Argument::Wrong(i, Wrong::Unknown),
+        Some(_) if value.is_some() => Argument::Wrong(i, Wrong::Valued),
+        Some(flag) => Argument::Flag(flag),
+    }
+}
+
+// The name of an option, and where its value begins behind it if it stands in the same argument: -w32, --key=FILE.
+fn split(text: &[u8]) -> (&[u8], Option<usize>) {
+    if text.starts_with(b"--") {
+        return match text.iter().position(|c| *c == b'=') {
+            Some(n) => (&text[..n], Some(n + 1)),
+            None => (text, None),
+        };
+    }
+    match text.split_at_checked(2) {
+        Some((name, [_, ..])) => (name, Some(2)),
+        _ => (text, None),
+    }
+}
+
+// Where the value of an option begins: at a byte of argument i, or else in the next argument.
+fn value_start(i: usize, value: Option<usize>, next: usize) -> Start {
+    match value {
+        Some(byte) => Start { argument: i, byte },
+        None => Start {
+            argument: next,
+            byte: 0,
+        },
+    }
+}
+
+// Argument i, put at the front of the room; nothing where it is missing or longer than the room.
+pub fn get<'a>(rt: &HostRuntime, i: usize, room: &'a mut [u8]) -> Option<&'a [u8]>
+    ensures { IfSome result (λ s. length s.now ≤ length room.old) }
 {
-    match rt.arg(i, text) {
-        Ok(n) => Some(n),
+    match rt.arg(i, room) {
+        Ok(n) => Some(&room[..n]),
         Err(_) => None,
     }
 }
 
 // The same, where one that is missing or too long is as an empty one.
-pub fn get_or_empty(rt: &HostRuntime, i: usize, text: &mut [u8]) -> usize
-    ensures { result ≤ length text.new }
+pub fn get_or_empty<'a>(rt: &HostRuntime, i: usize, room: &'a mut [u8]) -> &'a [u8]
+    ensures { length result.now ≤ length room.old }
 {
-    match get(rt, i, text) {
-        Some(n) => n,
-        None => 0,
-    }
+    get(rt, i, room).unwrap_or_default()
 }
 
-// Argument i, which comes after the one before. The table has each option and, behind it, v if it takes a value, and a dash if not; there is one space
-// between two words.
-pub fn next(rt: &HostRuntime, before: Argument, i: usize, table: &[u8]) -> Argument {
-    if i == before.value {
-        return bare(VALUE, before.rest);
-    }
-    if before.rest {
-        return bare(FILE, true);
-    }
-    read(rt, i, table)
-}
-
-// Argument i, before which the options have not ended. One that is too long is read as an empty one, which is no option.
-fn read(rt: &HostRuntime, i: usize, table: &[u8]) -> Argument {
-    let mut text = io::buffer();
-    let n = get_or_empty(rt, i, &mut text);
-    of_text(i, &text[..n], table)
-}
-
-fn of_text(i: usize, text: &[u8], table: &[u8]) -> Argument {
-    if !is_option(text) {
-        return bare(FILE, false);
-    }
-    if buffers::equal_bytes(text, b"--") {
-        return bare(END, true);
-    }
-    let end = name_end(text);
-    let Some(place) = script::place(table, &text[0..end]) else {
-        return bare(UNKNOWN, false);
-    };
-    let form = script::word(table, std::num::wrapping_add_usize(place, 1));
-    with_form(place, form, i, text, end)
-}
-
-// Whether an argument begins with a dash and is longer.
-fn is_option(text: &[u8]) -> bool {
-    if text.len() < 2 {
-        return false;
-    }
-    text[0] == b'-'
-}
-
-// Where the name of an option ends, behind which its value may stand in the same argument: -w32, --key=FILE.
-fn name_end(text: &[u8]) -> usize
-    ensures { result ≤ length text.now }
+// The text from a place on.
+pub fn from(text: &[u8], place: usize) -> &[u8]
+    ensures { length result.now ≤ length text.now }
 {
-    if text.len() < 2 {
-        return text.len();
-    }
-    if is_long(text) {
-        return script::until(text, b'=');
-    }
-    2
-}
-
-fn is_long(text: &[u8]) -> bool {
-    if text.len() < 2 {
-        return false;
-    }
-    text[1] == b'-'
-}
-
-// The option at a place of the table, by its form there, whose name ends at a place of argument i.
-fn with_form(place: usize, form: &[u8], i: usize, text: &[u8], end: usize) -> Argument {
-    if form.len() == 0 {
-        return bare(UNKNOWN, false);
-    }
-    let attached = end < text.len();
-    if form[0] == b'v' {
-        return with_value(place, i, attached, end, is_long(text));
-    }
-    if attached {
-        return bare(VALUED, false);
-    }
-    bare(place, false)
-}
-
-// The option with the place of its value: behind its name, after = if that is long, or the argument after it.
-fn with_value(option: usize, i: usize, attached: bool, end: usize, long: bool) -> Argument {
-    let mut a = bare(option, false);
-    if attached {
-        a.value = i;
-        a.from = std::num::wrapping_add_usize(end, long as usize);
-        return a;
-    }
-    a.value = std::num::wrapping_add_usize(i, 1);
-    a
+    text.get(place..).unwrap_or_default()
 }
 
 // Says what is wrong with argument i.
 pub fn say(rt: &HostRuntime, program: &[u8], i: usize, fault: &[u8]) {
     let mut text = io::buffer();
-    let n = get_or_empty(rt, i, &mut text);
-    messages::say(rt, program, &text[..n], fault);
+    messages::say(rt, program, get_or_empty(rt, i, &mut text), fault);
 }
 
-// Says why argument i is no option: there is none of its name, or it takes no value.
-pub fn say_no_option(rt: &HostRuntime, program: &[u8], i: usize, is: usize) {
-    if is == VALUED {
-        say(rt, program, i, b"this option takes no value");
-        return;
+// Says why argument i is no option.
+pub fn say_wrong(rt: &HostRuntime, program: &[u8], i: usize, why: Wrong) {
+    match why {
+        Wrong::Unknown => say(
+            rt,
+            program,
+            i,
+            b"there is no such option; --help says what there is",
+        ),
+        Wrong::Valued => say(rt, program, i, b"this option takes no value"),
     }
-    say(
-        rt,
-        program,
-        i,
-        b"there is no such option; --help says what there is",
-    );
-}
-
-// The text from a place on.
-pub fn from(text: &[u8], place: usize) -> &[u8] {
-    if text.len() < place {
-        return &text[..0];
-    }
-    &text[place..]
 }

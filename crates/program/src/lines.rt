@@ -1,129 +1,100 @@
 // The lines of a file, which is read in chunks.
-ghost use Rattle.std.specs.Prelude.{◌≡◌, ◌≤◌, length};
+ghost use Rattle.std.specs.Prelude.{◌≤◌, length};
 
 use crate::files::Source;
-use std::io::{Error, Read};
+use std::io::{Read, Result};
 
-// How far the file is read.
-#[derive(Clone, Copy)]
-pub struct Place {
-    // The part of the chunk that is still to be taken in.
-    pub from: usize,
-    pub to: usize,
-    // How many bytes the line has so far; more than the most if it is too long.
-    pub begun: usize,
-    // Whether the line has ended.
-    pub ended: bool,
-    // Whether there may be more of the file.
-    pub more: bool,
-    // Why the last read failed, if it did.
-    pub failed: Option<Error>,
-}
+// The most bytes of a chunk.
+const CHUNK: usize = 65536;
 
-pub fn start() -> Place
-    ensures { (result.from ≡ 0) × (result.to ≡ 0) }
-{
-    going(0, 0, 0, false)
-}
-
-fn going(from: usize, to: usize, begun: usize, ended: bool) -> Place
-    ensures { (result.from ≡ from) × (result.to ≡ to) }
-{
-    Place {
-        from: from,
-        to: to,
-        begun: begun,
-        ended: ended,
-        more: true,
-        failed: None,
-    }
-}
-
-// Goes on in the file: reads if the chunk is used up, else takes in what it has up to the end of a line, of which at most so many bytes are kept.
-pub fn go_on(p: Place, source: &mut Source, most: usize, chunk: &mut [u8], line: &mut [u8]) -> Place
-    requires { (most ≤ length line.old) × (p.from ≤ p.to) × (p.to ≤ length chunk.old) }
-    ensures { (result.from ≤ result.to) × (result.to ≤ length chunk.new) }
-{
-    let begun = begun_bytes(p);
-    let from = p.from;
-    let to = p.to;
-    if from == to {
-        return read(source, begun, chunk);
-    }
-    take_in(begun, from, to, most, chunk, line)
-}
-
-// The bytes that the line has so far: none after the end of the one before.
-fn begun_bytes(p: Place) -> usize {
-    if p.ended {
-        return 0;
-    }
-    p.begun
-}
-
-// The bytes of the line that has ended: none, as of an empty one, where none has.
-pub fn ended_bytes(p: Place) -> usize {
-    if p.ended {
-        return p.begun;
-    }
-    0
-}
-
-// Reads once. The line that the file ends in may lack the newline.
-fn read(source: &mut Source, begun: usize, chunk: &mut [u8]) -> Place
-    ensures { (result.from ≤ result.to) × (result.to ≤ length chunk.new) }
-{
-    match source.read(chunk) {
-        Ok(0) => last(begun, None),
-        Ok(n) => going(0, n, begun, false),
-        Err(e) => last(begun, Some(e)),
-    }
-}
-
-// After the last byte of the file, or where it cannot be read.
-fn last(begun: usize, failed: Option<Error>) -> Place
-    ensures { (result.from ≡ 0) × (result.to ≡ 0) }
-{
-    Place {
-        from: 0,
-        to: 0,
-        begun: begun,
-        ended: failed.is_none() & (begun != 0),
-        more: false,
-        failed: failed,
-    }
-}
-
-// Takes in the chunk's bytes from a place on, up to the first newline or to the end.
-fn take_in(
-    begun: usize,
+// A file of which the lines are read.
+#[derive(Drop)]
+pub struct Lines {
+    source: Source,
+    chunk: [u8; CHUNK],
+    // The part of the chunk that is still to be taken in, by places and not as a slice, since a struct cannot borrow from itself.
     from: usize,
     to: usize,
-    most: usize,
-    chunk: &[u8],
-    line: &mut [u8],
-) -> Place
-    requires { (most ≤ length line.old) × (from ≤ to) × (to ≤ length chunk.now) }
-    ensures { (result.from ≤ result.to) × (result.to ≤ length chunk.now) }
-{
-    let n = script::until(&chunk[from..to], b'\n');
-    let end = from + n;
-    let size = joined(begun, &chunk[from..end], most, line);
-    if end == to {
-        return going(to, to, size, false);
-    }
-    going(end + 1, to, size, true)
+    // Whether the file has ended.
+    at_end: bool,
+    ghost in_chunk: { (from ≤ to) × (to ≤ 65536) },
 }
 
-// The bytes that the line has with the piece, which is copied to its end. Of a line that is too long nothing more is kept.
-fn joined(begun: usize, piece: &[u8], most: usize, line: &mut [u8]) -> usize
-    requires { most ≤ length line.old }
+// The lines of a file, from where it is read on.
+pub fn of(source: Source) -> Lines {
+    Lines {
+        source,
+        chunk: io::large_buffer(),
+        from: 0,
+        to: 0,
+        at_end: false,
+    }
+}
+
+impl Lines {
+    // Reads a line into the room, and answers how many bytes it has; nothing where the file has ended. Of a line of more than the most bytes the answer is
+    // more than the most. The line that the file ends in may lack the newline.
+    // A proved loop has to end, and nothing says that a line does, so the turns are counted up to a number that no run comes to.
+    pub fn next(&mut self, room: &mut [u8], most: usize) -> Result<Option<usize>>
+        requires { most ≤ length room.old }
+    {
+        let mut size = 0;
+        for _ in 0..u64::MAX {
+            if self.from == self.to && !self.read()? {
+                break;
+            }
+            size = self.take_in(size, room, most);
+            if self.take_newline() {
+                return Ok(Some(size));
+            }
+        }
+        Ok(if size == 0 { None } else { Some(size) })
+    }
+
+    // Reads once, and answers whether something came. What is at its end is not read again.
+    fn read(&mut self) -> Result<bool> {
+        if self.at_end {
+            return Ok(false);
+        }
+        let n = self.source.read(&mut self.chunk)?;
+        self.from = 0;
+        self.to = n;
+        self.at_end = n == 0;
+        Ok(n != 0)
+    }
+
+    // Takes in the chunk up to the first newline or to its end, behind the bytes that the line has so far, and answers how many it has then.
+    fn take_in(&mut self, size: usize, room: &mut [u8], most: usize) -> usize
+        requires { most ≤ length room.old }
+    {
+        let rest = &self.chunk[self.from..self.to];
+        let n = rest.iter().position(|c| *c == b'\n').unwrap_or(rest.len());
+        let joined = join(size, &rest[..n], room, most);
+        self.from += n;
+        joined
+    }
+
+    // Takes the newline, if the chunk is not used up.
+    fn take_newline(&mut self) -> bool {
+        if self.from == self.to {
+            return false;
+        }
+        self.from += 1;
+        true
+    }
+}
+
+// Puts a piece behind the bytes that the line has so far, and answers how many it has with it. Of a line that is too long nothing more is kept.
+fn join(size: usize, piece: &[u8], room: &mut [u8], most: usize) -> usize
+    requires { most ≤ length room.old }
 {
-    if most < begun {
-        return begun;
+    if most < size {
+        return size;
     }
-    if most - begun < piece.len() {
-        return std::num::wrapping_add_usize(most, 1);
+    if most - size < piece.len() {
+        return most + 1;
     }
-    buffers::put(line, begun, piece)
+    let end = size + piece.len();
+    room[size..end].copy_from_slice(piece);
+    end
 }

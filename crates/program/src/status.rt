@@ -4,32 +4,38 @@ use crate::messages;
 use std::fs::OpenOptions;
 use std::io::Write;
 
-// All is well.
-pub const DONE: u64 = 0;
+// How a program ended.
+#[derive(Clone, Copy, Debug, PartialEq, Eq)]
+pub enum Status {
+    // All is well.
+    Done,
+    // A file could not be read, a check failed, or the output could not be written.
+    Failed,
+    // The command line is wrong.
+    Misused,
+    // Help or the version is asked for. kiosk has them, so that each is written once and nothing has to be built for them.
+    Help,
+    Version,
+}
 
-// A file could not be read, a check failed, or the output could not be written.
-pub const FAILED: u64 = 1;
-
-// The command line is wrong.
-pub const MISUSED: u64 = 2;
-
-// Help or the version is asked for. kiosk has them, so that each is written once and nothing has to be built for them.
-pub const HELP: u64 = 3;
-
-pub const VERSION: u64 = 4;
+impl From<bool> for Status {
+    // The status of what went well, or did not.
+    fn from(good: bool) -> Status {
+        if good { Status::Done } else { Status::Failed }
+    }
+}
 
 // The descriptor of the word, a number that a caller hardly has in use. The system shows each descriptor of a process as a file.
 const WORD: &str = "/proc/self/fd/99";
 
 // Says how the program of a name ended.
-pub fn end(rt: &HostRuntime, program: &[u8], status: u64) {
+pub fn end(rt: &HostRuntime, program: &[u8], status: Status) {
     match status {
-        DONE => write(rt, b"0\n"),
-        FAILED => write(rt, b"1\n"),
-        MISUSED => write(rt, b"2\n"),
-        HELP => ask(rt, program, b"help\n"),
-        VERSION => ask(rt, program, b"version\n"),
-        _ => {}
+        Status::Done => write(rt, b"0\n"),
+        Status::Failed => write(rt, b"1\n"),
+        Status::Misused => write(rt, b"2\n"),
+        Status::Help => ask(rt, program, b"help\n"),
+        Status::Version => ask(rt, program, b"version\n"),
     }
 }
 
@@ -52,12 +58,4 @@ fn ask(rt: &HostRuntime, program: &[u8], word: &[u8]) {
 fn write_word(rt: &HostRuntime, word: &[u8]) -> std::io::Result<()> {
     let mut file = OpenOptions::new().append(true).open(rt, WORD)?;
     file.write_all(word)
-}
-
-// The status of what went well, or did not.
-pub fn of(good: bool) -> u64 {
-    if good {
-        return DONE;
-    }
-    FAILED
 }

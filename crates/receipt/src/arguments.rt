@@ -1,34 +1,54 @@
-// The options of this program, by their places in its table.
-use program::arguments::Argument;
+// The options of this program, by their names.
+use program::arguments::{Argument, Arguments, Named};
 
-pub const WORD_SIZE: usize = 0;
+// Those that take no value.
+#[derive(Clone, Copy, Debug, PartialEq, Eq)]
+pub enum Flag {
+    Check,
+    Digest,
+    Length,
+    Tally,
+    Help,
+    Version,
+}
 
-pub const BITS: usize = 2;
+impl Named for Flag {
+    fn of_name(name: &[u8]) -> Option<Flag> {
+        match name {
+            b"-c" | b"--check" => Some(Flag::Check),
+            b"--digest" => Some(Flag::Digest),
+            b"--length" => Some(Flag::Length),
+            b"--tally" => Some(Flag::Tally),
+            b"-h" | b"--help" => Some(Flag::Help),
+            b"--version" => Some(Flag::Version),
+            _ => None,
+        }
+    }
+}
 
-pub const KEY: usize = 4;
+// Those that take a value.
+#[derive(Clone, Copy, Debug, PartialEq, Eq)]
+pub enum Valued {
+    WordSize,
+    Bits,
+    Key,
+}
 
-pub const CHECK: usize = 6;
+impl Named for Valued {
+    fn of_name(name: &[u8]) -> Option<Valued> {
+        match name {
+            b"-w" => Some(Valued::WordSize),
+            b"-n" => Some(Valued::Bits),
+            b"--key" => Some(Valued::Key),
+            _ => None,
+        }
+    }
+}
 
-pub const CHECK_LONG: usize = 8;
+// What an argument is.
+pub type Is = Argument<Flag, Valued>;
 
-pub const DIGEST: usize = 10;
-
-pub const LENGTH: usize = 12;
-
-pub const TALLY: usize = 14;
-
-pub const HELP: usize = 16;
-
-pub const HELP_LONG: usize = 18;
-
-pub const VERSION: usize = 20;
-
-// Argument i, which comes after the one before.
-pub fn next(rt: &HostRuntime, before: Argument, i: usize) -> Argument {
-    program::arguments::next(
-        rt,
-        before,
-        i,
-        b"-w v -n v --key v -c - --check - --digest - --length - --tally - -h - --help - --version -",
-    )
+// The arguments, one after another.
+pub fn all(rt: &HostRuntime) -> Arguments<'_, Flag, Valued> {
+    program::arguments::all(rt)
 }

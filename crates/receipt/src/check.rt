@@ -1,32 +1,27 @@
 // Lines that were printed before, checked: whether each is what would be printed of its file now.
-ghost use Rattle.std.specs.Prelude.{◌≡◌, ◌≤◌, length};
-ghost use Rattle.receipts.specs.Receipt.{receipt_bytes};
-ghost use Rattle.program.specs.Sizes.{name_bytes};
-ghost use Rattle.receipt.specs.Sizes.{line_bytes};
+ghost use Rattle.std.specs.Prelude.{◌≡◌, ◌+◌, ◌<◌, ◌≤◌, length};
+ghost use Rattle.receipt.specs.Found.{counted};
 
-use crate::entry::Entry;
-use crate::line::LINE;
-use crate::options::Asked;
-use crate::{entry, line, messages, options};
+use crate::job::Job;
+use crate::line::{LINE, Unwritten, Verdict};
+use crate::name::Name;
+use crate::{entry, line, messages};
 use finalization::RECEIPT;
-use fingerprint::{Fingerprint, reading};
+use fingerprint::{Fingerprint, Kind, reading};
 use program::files::Source;
 use program::{files, lines};
 use std::io::Error;
 
-// What is found of a line: it is right, or not; its file cannot be read; it is no line that was printed; it is empty or a comment; or what was found could
-// not be written.
-const RIGHT: u64 = 0;
-
-const WRONG: u64 = 1;
-
-const UNREAD: u64 = 2;
-
-const NO_LINE: u64 = 3;
-
-const NOTHING: u64 = 4;
-
-const UNWRITTEN: u64 = 5;
+// What is found of a line.
+#[derive(Clone, Copy, Debug, PartialEq, Eq)]
+enum Finding {
+    // It was printed of a file, which was checked.
+    Checked(Verdict),
+    // It is no line that was printed.
+    NoLine,
+    // It is empty or a comment.
+    Nothing,
+}
 
 // How many lines of each kind were found.
 #[derive(Clone, Copy)]
@@ -35,248 +30,210 @@ struct Found {
     wrong: u64,
     unread: u64,
     no_line: u64,
-    // Why the list could not be read, if so.
+    // Why the list could not be read to its end, if so.
     failed: Option<Error>,
-    // Whether what was found could be written.
-    on: bool,
 }
 
-// Whether all lines of a list are right, and whether to go on.
+// What a line has of a file.
 #[derive(Clone, Copy)]
-pub struct Result {
-    pub good: bool,
-    pub on: bool,
+enum Listed<'a> {
+    // A receipt that could have been written.
+    Receipt([u8; RECEIPT]),
+    // As many bytes as the digests or the tags that are asked for.
+    Part(&'a [u8]),
 }
 
-// Checks the lines of the list of a name.
-pub fn list(rt: &HostRuntime, mut a: Asked, key: &[u8], name: &[u8]) -> Result {
-    match reading::open_file(rt, name, a.input_taken) {
-        Some(mut source) => {
-            a.input_taken = a.input_taken | files::is_standard_input(name);
-            let f = each(rt, a, key, &mut source);
-            if let Some(e) = f.failed {
-                messages::fail(rt, name, e);
+// Checks the lines of the list of a name, and answers whether all are right.
+pub fn list(job: &Job, name: Name) -> Result<bool, Unwritten> {
+    let Some(source) = reading::open_file(job.rt, name.bytes, job.input_taken) else {
+        return Ok(false);
+    };
+    let mut job = *job;
+    job.input_taken |= files::is_standard_input(name.bytes);
+    let found = each(&job, source)?;
+    Ok(verdict(job.rt, name.bytes, found))
+}
+
+fn each(job: &Job, source: Source) -> Result<Found, Unwritten> {
+    let mut lines = lines::of(source);
+    let mut room = [0u8; LINE];
+    let mut found = Found::nothing();
+    for _ in 0..u64::MAX {
+        match lines.next(&mut room, LINE) {
+            Ok(Some(n)) => found.add(line_of(job, &room, n)?),
+            Ok(None) => break,
+            Err(e) => {
+                found.failed = Some(e);
+                break;
             }
-            files::close(source);
-            verdict(rt, f, name)
         }
-        None => Result {
-            good: false,
-            on: true,
-        },
+    }
+    Ok(found)
+}
+
+impl Found {
+    fn nothing() -> Found
+        ensures { counted result ≡ 0 }
+    {
+        Found {
+            right: 0,
+            wrong: 0,
+            unread: 0,
+            no_line: 0,
+            failed: None,
+        }
+    }
+
+    // Counts one line more.
+    fn add(&mut self, finding: Finding)
+        requires { counted self.old < u64.MAX }
+        ensures { counted self.new ≤ counted self.old + 1 }
+    {
+        match finding {
+            Finding::Checked(Verdict::Right) => self.right += 1,
+            Finding::Checked(Verdict::Wrong) => self.wrong += 1,
+            Finding::Checked(Verdict::Unread) => self.unread += 1,
+            Finding::NoLine => self.no_line += 1,
+            Finding::Nothing => {}
+        }
+    }
+
+    // Whether all lines are right and there is one.
+    fn is_right(&self) -> bool {
+        self.failed.is_none()
+            && self.right != 0
+            && self.wrong == 0
+            && self.unread == 0
+            && self.no_line == 0
+    }
+
+    // Whether there was no line to check.
+    fn is_empty(&self) -> bool {
+        self.right == 0 && self.wrong == 0 && self.unread == 0
     }
 }
 
-#[tactic(auto, unfolding(crate::specs::Sizes::line_bytes, receipts::specs::Receipt::receipt_bytes))]
-fn each(rt: &HostRuntime, a: Asked, key: &[u8], source: &mut Source) -> Found {
-    let mut chunk = io::large_buffer();
-    let mut line = line::buffer();
-    let mut f = nothing_found();
-    let mut p = lines::start();
-    let mut turns = u64::MAX;
-    while turns > 0 && p.more & f.on {
-        p = lines::go_on(p, source, LINE, &mut chunk, &mut line);
-        f = counted(f, line_of(rt, a, key, lines::ended_bytes(p), &line));
-        turns -= 1;
+// What is found of the line of n bytes at the front of its room; one that is longer than the room was never printed. A list may come from a system whose
+// lines end in a carriage return; elsewhere in a line none was printed.
+fn line_of(job: &Job, room: &[u8; LINE], n: usize) -> Result<Finding, Unwritten> {
+    let Some(line) = room.get(..n) else {
+        return Ok(Finding::NoLine);
+    };
+    let text = match line {
+        [] | [b'#', ..] | b"\r" => return Ok(Finding::Nothing),
+        [text @ .., b'\r'] => text,
+        text => text,
+    };
+    if text.contains(&b'\r') {
+        return Ok(Finding::NoLine);
     }
-    f.failed = p.failed;
-    f
-}
-
-fn nothing_found() -> Found {
-    Found {
-        right: 0,
-        wrong: 0,
-        unread: 0,
-        no_line: 0,
-        failed: None,
-        on: true,
-    }
-}
-
-fn counted(mut f: Found, what: u64) -> Found {
-    match what {
-        RIGHT => f.right = std::num::wrapping_add_u64(f.right, 1),
-        WRONG => f.wrong = std::num::wrapping_add_u64(f.wrong, 1),
-        UNREAD => f.unread = std::num::wrapping_add_u64(f.unread, 1),
-        NO_LINE => f.no_line = std::num::wrapping_add_u64(f.no_line, 1),
-        UNWRITTEN => f.on = false,
-        _ => {}
-    }
-    f
-}
-
-// What is found of a line of n bytes. A list may come from a system whose lines end in a carriage return; elsewhere in a line none was printed.
-#[tactic(auto, unfolding(crate::specs::Sizes::line_bytes, receipts::specs::Receipt::receipt_bytes))]
-fn line_of(rt: &HostRuntime, a: Asked, key: &[u8], n: usize, buffer: &[u8]) -> u64
-    requires { line_bytes ≡ length buffer.now }
-{
-    if LINE < n {
-        return NO_LINE;
-    }
-    // The line is empty, or begins with this.
-    if script::until(&buffer[0..n], b'#') == 0 {
-        return NOTHING;
-    }
-    let end = script::until(&buffer[0..n], b'\r');
-    if n - end > 1 {
-        return NO_LINE;
-    }
-    if end == 0 {
-        return NOTHING;
-    }
-    checked(rt, a, key, &buffer[0..end])
+    entry_of(job, text)
 }
 
 // What is found of a line that is neither empty nor a comment.
-fn checked(rt: &HostRuntime, a: Asked, key: &[u8], line: &[u8]) -> u64
-    requires { length line.now ≤ line_bytes }
+fn entry_of(job: &Job, line: &[u8]) -> Result<Finding, Unwritten>
+    requires { length line.now ≤ LINE }
 {
-    let e = entry::parts(line);
-    let from = e.from;
-    let to = e.to;
-    let mut listed = [0u8; RECEIPT];
-    let k = hexadecimal::read_bytes(&line[from..to], &mut listed);
-    let mut room = line::buffer();
-    let name = entry::read_name(e, line, &mut room);
-    let size = name.size;
-    if !(e.is & name.is & is_kind(a, listed, k.unwrap_or(0))) {
-        return NO_LINE;
-    }
-    file(rt, a, key, e, listed, &room[0..size])
+    let Some(entry) = entry::parts(line) else {
+        return Ok(Finding::NoLine);
+    };
+    let mut bytes = [0u8; RECEIPT];
+    let Some(listed) = Listed::read(job, entry.digits, &mut bytes) else {
+        return Ok(Finding::NoLine);
+    };
+    let mut room = [0u8; LINE];
+    let Some(name) = entry.name(&mut room) else {
+        return Ok(Finding::NoLine);
+    };
+    let verdict = file(job, listed, entry.bits, name);
+    line::print_verdict(job.rt, name, verdict)?;
+    Ok(Finding::Checked(verdict))
 }
 
-// Whether bytes are what is asked for: a receipt, or as many bytes as a digest or a tag has. A receipt that could have been written is the same as itself.
-fn is_kind(a: Asked, listed: [u8; RECEIPT], count: usize) -> bool {
-    if !has_receipts(a) {
-        return count == fingerprint::digest_bytes(a.n);
-    }
-    let s = numbered::sameness(same::same(&listed, &listed));
-    (count == RECEIPT) & (s.number == 0)
-}
-
-// Whether receipts are asked for, and not digests or tags.
-fn has_receipts(a: Asked) -> bool {
-    !a.digest & (a.key == 0)
-}
-
-// Checks the file of a name, and prints what is found.
-fn file(rt: &HostRuntime, a: Asked, key: &[u8], e: Entry, listed: [u8; RECEIPT], name: &[u8]) -> u64
-    requires { length name.now ≤ name_bytes }
-{
-    let f = of_file(rt, a, key, listed, name);
-    let what = compared(a, e, listed, f);
-    if print(rt, name, what) {
-        return what;
-    }
-    UNWRITTEN
-}
-
-// What is printed of the file now: of a receipt with its own w and n.
-#[tactic(auto, unfolding(receipts::specs::Receipt::receipt_bytes))]
-fn of_file(
-    rt: &HostRuntime,
-    a: Asked,
-    key: &[u8],
-    listed: [u8; RECEIPT],
-    name: &[u8],
-) -> Fingerprint
-    ensures { (result.from ≤ result.to) × (result.to ≤ receipt_bytes) }
-{
-    let mut k = options::kind(a);
-    if has_receipts(a) {
-        k.w = listed[0] as u64;
-        k.n = same::digest_length_of(&listed);
-    }
-    fingerprint::of_file(rt, k, key, name)
-}
-
-// Whether the file is as listed. Receipts are compared by Same; of a digest or a tag every byte is compared, as in the check of a tag.
-fn compared(a: Asked, e: Entry, listed: [u8; RECEIPT], f: Fingerprint) -> u64
-    requires { (f.from ≤ f.to) × (f.to ≤ receipt_bytes) }
-{
-    if !f.good {
-        return UNREAD;
-    }
-    if e.has_length & (e.bits != f.bits) {
-        return WRONG;
-    }
-    let bytes = f.bytes;
-    if agree(has_receipts(a), listed, bytes, f.from, f.to) {
-        return RIGHT;
-    }
-    WRONG
-}
-
-// Whether what is listed is the same receipt, or the part of the bytes.
-#[tactic(auto, unfolding(receipts::specs::Receipt::receipt_bytes))]
-fn agree(
-    are_receipts: bool,
-    listed: [u8; RECEIPT],
-    bytes: [u8; RECEIPT],
-    from: usize,
-    to: usize,
-) -> bool
-    requires { (from ≤ to) × (to ≤ receipt_bytes) }
-{
-    if are_receipts {
-        let s = numbered::sameness(same::same(&listed, &bytes));
-        return s.same;
-    }
-    let size = to - from;
-    buffers::equal_bytes(&listed[0..size], &bytes[from..to])
-}
-
-fn print(rt: &HostRuntime, name: &[u8], what: u64) -> bool
-    requires { length name.now ≤ name_bytes }
-{
-    match what {
-        RIGHT => line::print_verdict(rt, name, b": OK"),
-        UNREAD => line::print_verdict(rt, name, b": FAILED open or read"),
-        _ => line::print_verdict(rt, name, b": FAILED"),
+// Whether the file of a name is as listed. A receipt is that of the file with its own w and n.
+fn file(job: &Job, listed: Listed, bits: Option<u64>, name: Name) -> Verdict {
+    match fingerprint::of_file(job.rt, listed.kind(job), job.key, name.bytes) {
+        Some(f) if bits.unwrap_or(f.bits) == f.bits && listed.agrees(f) => Verdict::Right,
+        Some(_) => Verdict::Wrong,
+        None => Verdict::Unread,
     }
 }
 
-// Says what was found in the list of a name, unless the output could not be written, which was said.
-fn verdict(rt: &HostRuntime, f: Found, name: &[u8]) -> Result {
-    if !f.on {
-        return Result {
-            good: false,
-            on: false,
-        };
+impl<'a> Listed<'a> {
+    // What digits say, if that is what is asked for. The bytes are put into the room.
+    fn read(job: &Job, digits: &[u8], room: &'a mut [u8; RECEIPT]) -> Option<Listed<'a>> {
+        let n = hexadecimal::read_bytes(digits, room)?;
+        Listed::of(job, &room[..n])
     }
-    say_count(rt, name, f.wrong, b"file failed", b"files failed");
+
+    fn of(job: &Job, bytes: &'a [u8]) -> Option<Listed<'a>> {
+        if job.has_receipts() {
+            let receipt = bytes.try_into().ok()?;
+            return is_receipt(&receipt).then_some(Listed::Receipt(receipt));
+        }
+        let is_part = bytes.len() == fingerprint::digest_bytes(job.asked.digest_length());
+        is_part.then_some(Listed::Part(bytes))
+    }
+
+    // What is asked for of the file.
+    #[tactic(auto, unfolding(receipts::specs::Receipt::receipt_bytes))]
+    fn kind(&self, job: &Job) -> Kind {
+        match self {
+            Listed::Receipt(receipt) => Kind {
+                w: u64::from(receipt[0]),
+                n: same::digest_length_of(receipt),
+                digest: false,
+                input_taken: job.input_taken,
+            },
+            Listed::Part(_) => job.kind(),
+        }
+    }
+
+    // Whether that is listed which is made of the file now. Receipts are compared by Same; of a digest or a tag every byte is compared, as in the check of a tag.
+    fn agrees(&self, f: Fingerprint) -> bool {
+        match self {
+            Listed::Receipt(receipt) => matches!(same::same(receipt, &f.receipt()), Ok(true)),
+            Listed::Part(bytes) => buffers::equal_bytes(bytes, f.shown()),
+        }
+    }
+}
+
+// Whether these bytes are a receipt that could have been written: such a one is the same as itself.
+fn is_receipt(bytes: &[u8; RECEIPT]) -> bool {
+    same::same(bytes, bytes).is_ok()
+}
+
+// Says what was found in the list of a name, and answers whether all of it is right.
+fn verdict(rt: &HostRuntime, name: &[u8], found: Found) -> bool {
+    if let Some(e) = found.failed {
+        messages::fail(rt, name, e);
+    }
+    say_count(rt, name, found.wrong, b"file failed", b"files failed");
     say_count(
         rt,
         name,
-        f.unread,
+        found.unread,
         b"file could not be read",
         b"files could not be read",
     );
     say_count(
         rt,
         name,
-        f.no_line,
+        found.no_line,
         b"line is not as it is printed without --check",
         b"lines are not as they are printed without --check",
     );
-    let is_empty = (f.right == 0) & (f.wrong == 0) & (f.unread == 0);
-    let good = f.failed.is_none();
-    if is_empty & good {
+    if found.is_empty() && found.failed.is_none() {
         messages::say(rt, name, b"there is no line to check in it");
     }
-    Result {
-        good: good & !is_empty & (f.wrong == 0) & (f.unread == 0) & (f.no_line == 0),
-        on: true,
-    }
+    found.is_right()
 }
 
 // Says how many lines there are of a kind, if there are any.
 fn say_count(rt: &HostRuntime, name: &[u8], count: u64, one: &[u8], more: &[u8]) {
-    if count == 1 {
-        messages::count_wrong(rt, name, count, one);
-    }
-    if 1 < count {
-        messages::count_wrong(rt, name, count, more);
+    match count {
+        0 => {}
+        1 => messages::count_wrong(rt, name, count, one),
+        _ => messages::count_wrong(rt, name, count, more),
     }
 }

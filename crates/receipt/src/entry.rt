@@ -1,126 +1,76 @@
 // A line of a list taken apart: what was printed of a file, its length if that was printed, and its name.
-ghost use Rattle.std.specs.Prelude.{◌≡◌, ◌≤◌, length};
-ghost use Rattle.program.specs.Sizes.{name_bytes};
-ghost use Rattle.receipt.specs.Sizes.{line_bytes};
+ghost use Rattle.std.specs.Prelude.{◌≤◌, length, IfSome};
+ghost use Rattle.receipt.specs.declared.line.TheConstants.{LINE};
 
+use crate::line::LINE;
+use crate::name::Name;
 use program::names;
-use program::names::NAME;
 
-// Where the parts of a line stand.
+// The parts of a line.
 #[derive(Clone, Copy)]
-pub struct Entry {
-    // Whether it is such a line.
-    pub is: bool,
-    // Whether the name is escaped.
-    escaped: bool,
+pub struct Entry<'a> {
     // The hexadecimal digits.
-    pub from: usize,
-    pub to: usize,
-    // Whether there is a length, and the length in bits.
-    pub has_length: bool,
-    pub bits: u64,
-    // Where the name begins.
-    name: usize,
+    pub digits: &'a [u8],
+    // The length in bits, if there is one.
+    pub bits: Option<u64>,
+    // The name as it is printed, and whether it is escaped.
+    text: &'a [u8],
+    escaped: bool,
+    ghost short: { length text.now ≤ LINE },
 }
 
 // The parts of a line: a backslash if the name is escaped, digits, a space and the length if there is one, two spaces, and the name.
-pub fn parts(line: &[u8]) -> Entry
-    ensures { (result.from ≤ result.to) × (result.to ≤ length line.now) × (result.name ≤ length line.now) }
+pub fn parts(line: &[u8]) -> Option<Entry>
+    requires { length line.now ≤ LINE }
 {
-    let from = backslash_end(line);
-    let to = word_end(line, from);
-    let next = past(line, to, 1);
-    let end = word_end(line, next);
-    let has_length = next < end;
-    let number = script::read_number(&line[next..end]);
-    let spaces = either(has_length, to, end);
-    let name = past(line, spaces, 2);
-    Entry {
-        is: are_spaces(&line[spaces..name])
-            & (number.is_some() | !has_length)
-            & (name < line.len()),
-        escaped: from != 0,
-        from: from,
-        to: to,
-        has_length: has_length,
-        bits: number.unwrap_or(0),
-        name: name,
+    let (escaped, rest) = match line {
+        [b'\\', rest @ ..] => (true, rest),
+        _ => (false, line),
+    };
+    let (digits, rest) = cut_at_space(rest);
+    let (bits, rest) = cut_length(rest)?;
+    let text = rest.strip_prefix(b"  ")?;
+    if text.is_empty() {
+        return None;
+    }
+    Some(Entry {
+        digits,
+        bits,
+        text,
+        escaped,
+    })
+}
+
+// The word at the front, and what follows it: nothing, or a space and more.
+fn cut_at_space(text: &[u8]) -> (&[u8], &[u8])
+    ensures { length result.1.now ≤ length text.now }
+{
+    text.split_at(script::until(text, b' '))
+}
+
+// The length behind a space, if there is one, and what follows it. What stands there and is no number is none of a line.
+fn cut_length(rest: &[u8]) -> Option<(Option<u64>, &[u8])>
+    ensures { IfSome result (λ p. length p.1.now ≤ length rest.now) }
+{
+    match rest {
+        [b' ', word @ ..] => {
+            let (word, after) = cut_at_space(word);
+            if word.is_empty() {
+                return Some((None, rest));
+            }
+            Some((Some(script::read_number(word)?), after))
+        }
+        _ => Some((None, rest)),
     }
 }
 
-// The place after the backslash that a line with an escaped name begins with.
-fn backslash_end(line: &[u8]) -> usize
-    ensures { result ≤ length line.now }
-{
-    if line.len() == 0 {
-        return 0;
+impl<'a> Entry<'a> {
+    // The name; nothing where it is none, or has more bytes than a name can have. One that is escaped is read into the room.
+    pub fn name(&self, room: &'a mut [u8; LINE]) -> Option<Name<'a>> {
+        if !self.escaped {
+            return Name::new(self.text);
+        }
+        let size = names::read(self.text, room)?;
+        Name::new(&room[..size])
     }
-    if line[0] == b'\\' {
-        return 1;
-    }
-    0
-}
-
-// Where the word that begins at a place ends.
-fn word_end(line: &[u8], from: usize) -> usize
-    requires { from ≤ length line.now }
-    ensures { (from ≤ result) × (result ≤ length line.now) }
-{
-    from + script::until(&line[from..], b' ')
-}
-
-// The place some bytes further on, or the end of the line.
-fn past(line: &[u8], from: usize, bytes: usize) -> usize
-    requires { from ≤ length line.now }
-    ensures { (from ≤ result) × (result ≤ length line.now) }
-{
-    if line.len() - from < bytes {
-        return line.len();
-    }
-    from + bytes
-}
-
-fn either(last: bool, first: usize, second: usize) -> usize
-    requires { first ≤ second }
-    ensures { result ≤ second }
-{
-    if last {
-        return second;
-    }
-    first
-}
-
-fn are_spaces(s: &[u8]) -> bool {
-    buffers::equal_bytes(s, b"  ")
-}
-
-// Writes the name of an entry at the front of its room. One of more bytes than a name can have is none.
-pub fn read_name(e: Entry, line: &[u8], room: &mut [u8]) -> Name
-    requires { (e.name ≤ length line.now) × (length line.now ≤ line_bytes) × (line_bytes ≡ length room.old) }
-    ensures { result.size ≤ name_bytes }
-{
-    let from = e.name;
-    let text = &line[from..];
-    if e.escaped {
-        let u = names::read(text, room);
-        return name_of(u.is, u.size);
-    }
-    let size = buffers::put(room, 0, text);
-    name_of(true, size)
-}
-
-// A name and how many bytes it has.
-#[derive(Clone, Copy)]
-pub struct Name {
-    pub is: bool,
-    pub size: usize,
-}
-
-fn name_of(is: bool, size: usize) -> Name
-    ensures { result.size ≤ name_bytes }
-{
-    if NAME < size {
-        return Name { is: false, size: 0 };
-    }
-    Name { is: is, size: size }
 }

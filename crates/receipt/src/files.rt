@@ -1,128 +1,65 @@
 // The files that are named: of each its line, or the check of the lines in it.
-ghost use Rattle.std.specs.Prelude.{◌≡◌, ◌≤◌, length};
-ghost use Rattle.program.specs.Sizes.{name_bytes};
-ghost use Rattle.receipt.specs.Sizes.{list_bytes};
+use crate::job::Job;
+use crate::line::Unwritten;
+use crate::list::List;
+use crate::name::Name;
+use crate::{arguments, check, line, messages};
+use program::arguments::Argument;
+use program::status::Status;
 
-use crate::options::Asked;
-use crate::{arguments, check, line, list, messages, options};
-use finalization::RECEIPT;
-use program::status;
-
-// How far the files are done.
-#[derive(Clone, Copy)]
-struct Progress {
-    // Whether all went well.
-    good: bool,
-    // Whether to go on: what was printed could be written.
-    on: bool,
-    // How many receipts are in the list.
-    count: usize,
+// Does what is asked for with each file, and answers how that ended.
+pub fn all(job: &Job) -> Status {
+    Status::from(all_well(job) == Ok(true))
 }
 
-// What was done with one argument.
-#[derive(Clone, Copy)]
-struct Done {
-    good: bool,
-    on: bool,
-    // The receipt of a file, if one was made and printed.
-    made: bool,
-    receipt: [u8; RECEIPT],
-}
-
-// Does what is asked for with each file, and answers how that ended. With a key, which is not empty, tags are made.
-pub fn all(rt: &HostRuntime, a: Asked, key: &[u8]) -> u64 {
-    let mut list = list::buffer();
-    let p = each(rt, a, key, &mut list);
-    if a.tally & p.on {
-        return status::of(list::print_tally(rt, &list, p.count) & p.good);
+// Whether all goes well with the files and with their tally. Once something could not be written, nothing more is done.
+fn all_well(job: &Job) -> Result<bool, Unwritten> {
+    let mut list = List::new();
+    let good = each(job, &mut list)?;
+    if job.asked.tally {
+        list.print_tally(job.rt)?;
     }
-    status::of(p.good)
+    Ok(good)
 }
 
-fn each(rt: &HostRuntime, a: Asked, key: &[u8], list: &mut [u8]) -> Progress
-    requires { list_bytes ≡ length list.old }
-{
-    let end = program::arguments::count(rt);
-    let mut p = Progress {
-        good: true,
-        on: true,
-        count: 0,
-    };
-    let mut t = program::arguments::start();
-    let mut i: usize = 1;
-    while i < end {
-        t = arguments::next(rt, t, i);
-        p = after(
-            p,
-            argument(rt, a, key, p.on & (t.is == program::arguments::FILE), i),
-            list,
-        );
-        i += 1;
+// Whether all goes well with each file. The receipts that are made are put into the list.
+fn each(job: &Job, list: &mut List) -> Result<bool, Unwritten> {
+    let mut good = true;
+    for argument in arguments::all(job.rt) {
+        if let Argument::File(i) = argument {
+            good &= of_argument(job, i, list)?;
+        }
     }
-    p
+    Ok(good)
 }
 
-// How far the files are done with one more. Its receipt is put into the list.
-fn after(p: Progress, d: Done, list: &mut [u8]) -> Progress
-    requires { list_bytes ≡ length list.old }
-{
-    let receipt = d.receipt;
-    let count = list::keep(list, p.count, d.made, receipt);
-    Progress {
-        good: p.good & d.good,
-        on: p.on & d.on,
-        count: count,
-    }
-}
-
-// Does what is asked for with the file that argument i names, if it is to be done.
-fn argument(rt: &HostRuntime, a: Asked, key: &[u8], wanted: bool, i: usize) -> Done {
-    if !wanted {
-        return without_receipt(true, true);
-    }
+// Does what is asked for with the file that argument i names.
+fn of_argument(job: &Job, i: usize, list: &mut List) -> Result<bool, Unwritten> {
     let mut text = io::buffer();
-    match program::arguments::get(rt, i, &mut text) {
-        Some(n) => named(rt, a, key, &text[..n]),
+    match program::arguments::get(job.rt, i, &mut text) {
+        Some(bytes) => named(job, Name { bytes }, list),
         None => {
-            messages::say_alone(rt, b"a file's name is too long");
-            without_receipt(false, true)
+            messages::say_alone(job.rt, b"a file's name is too long");
+            Ok(false)
         }
     }
 }
 
-fn without_receipt(good: bool, on: bool) -> Done {
-    Done {
-        good: good,
-        on: on,
-        made: false,
-        receipt: [0u8; RECEIPT],
+fn named(job: &Job, name: Name, list: &mut List) -> Result<bool, Unwritten> {
+    if job.asked.check {
+        check::list(job, name)
+    } else {
+        print(job, name, list)
     }
-}
-
-fn named(rt: &HostRuntime, a: Asked, key: &[u8], name: &[u8]) -> Done
-    requires { length name.now ≤ name_bytes }
-{
-    if a.check {
-        let c = check::list(rt, a, key, name);
-        return without_receipt(c.good, c.on);
-    }
-    printed(rt, a, key, name)
 }
 
 // Prints the line of a file.
-fn printed(rt: &HostRuntime, a: Asked, key: &[u8], name: &[u8]) -> Done
-    requires { length name.now ≤ name_bytes }
-{
-    let f = fingerprint::of_file(rt, options::kind(a), key, name);
-    if !f.good {
-        return without_receipt(false, true);
-    }
-    let bytes = f.bytes;
-    let written = line::print(rt, bytes, f.from, f.to, a.length, f.bits, name);
-    Done {
-        good: written,
-        on: written,
-        made: written,
-        receipt: bytes,
-    }
+fn print(job: &Job, name: Name, list: &mut List) -> Result<bool, Unwritten> {
+    let Some(f) = fingerprint::of_file(job.rt, job.kind(), job.key, name.bytes) else {
+        return Ok(false);
+    };
+    let bits = job.asked.length.then_some(f.bits);
+    line::print(job.rt, f.shown(), bits, name)?;
+    list.keep(f.receipt());
+    Ok(true)
 }

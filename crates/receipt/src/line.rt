@@ -1,100 +1,116 @@
-// A line of the output: a receipt, a digest or a tag, a length and a name; or a name, and whether a check found it right.
-ghost use Rattle.std.specs.Prelude.{◌≡◌, ◌+◌, ◌≤◌, length};
+// The lines that are printed: what was made of a file, or what a check found of it, and its name.
+ghost use Rattle.std.specs.Prelude.{◌≡◌, ◌+◌, ◌<◌, ◌≤◌, length};
 ghost use Rattle.receipts.specs.Receipt.{receipt_bytes};
 ghost use Rattle.decimal.specs.Number.{most_digits};
-ghost use Rattle.program.specs.Sizes.{name_bytes};
-ghost use Rattle.receipt.specs.Sizes.{line_bytes, verdict_bytes};
+ghost use Rattle.receipt.specs.Sizes.{verdict_bytes};
 
+use crate::name::Name;
 use decimal::DIGITS;
 use finalization::RECEIPT;
 use program::names::NAME;
 use program::{names, output};
 
-// Room for the longest line (line_bytes in specs/Sizes.antt).
+// Room for the longest line: a backslash, the digits of a receipt, a space and the length, two spaces, a name each of whose bytes is escaped, and the newline;
+// `text::put_bytes` asks for one more.
 pub const LINE: usize = 1 + (2 * RECEIPT + 1) + (1 + DIGITS) + 2 + 2 * NAME + 1;
 
-// Prints bytes of a receipt or of a tag, the length of a file if it is asked for, and its name.
-#[tactic(auto, unfolding(receipts::specs::Receipt::receipt_bytes))]
-pub fn print(
-    rt: &HostRuntime,
-    bytes: [u8; RECEIPT],
-    from: usize,
-    to: usize,
-    with_length: bool,
-    bits: u64,
-    name: &[u8],
-) -> bool
-    requires { (from ≤ to) × (to ≤ receipt_bytes) × (length name.now ≤ name_bytes) }
+// What a check finds of a file.
+#[derive(Clone, Copy, Debug, PartialEq, Eq)]
+pub enum Verdict {
+    // It is as listed.
+    Right,
+    Wrong,
+    // It cannot be read.
+    Unread,
+}
+
+impl Verdict {
+    // What is printed of it, behind the file's name.
+    fn words(self) -> &'static [u8]
+        ensures { length result.now ≤ verdict_bytes }
+    {
+        match self {
+            Verdict::Right => b": OK",
+            Verdict::Wrong => b": FAILED",
+            Verdict::Unread => b": FAILED open or read",
+        }
+    }
+}
+
+// What is printed could not be written, which was said.
+#[derive(Clone, Copy, Debug, PartialEq, Eq)]
+pub struct Unwritten;
+
+// Prints bytes of a receipt or of a tag, the length of a file in bits if it is asked for, and its name.
+pub fn print(rt: &HostRuntime, shown: &[u8], bits: Option<u64>, name: Name) -> Result<(), Unwritten>
+    requires { length shown.now ≤ receipt_bytes }
 {
-    let mut line = buffer();
-    let end = put(&mut line, &bytes[from..to], with_length, bits, name);
-    let first = begin(name);
-    output::write(rt, b"receipt", &line[first..end])
+    let mut line = [0; LINE];
+    let end = put(&mut line, shown, bits, name);
+    print_ended(rt, &mut line, end, name)
 }
 
 // Prints a name and what a check found of it.
-pub fn print_verdict(rt: &HostRuntime, name: &[u8], verdict: &[u8]) -> bool
-    requires { (length name.now ≤ name_bytes) × (length verdict.now ≤ verdict_bytes) }
-{
-    let mut line = buffer();
+pub fn print_verdict(rt: &HostRuntime, name: Name, verdict: Verdict) -> Result<(), Unwritten> {
+    let mut line = [0; LINE];
     let end = put_verdict(&mut line, name, verdict);
-    let first = begin(name);
-    output::write(rt, b"receipt", &line[first..end])
+    print_ended(rt, &mut line, end, name)
 }
 
-// Writes a line and answers where it ends. As sha256sum does, a line whose name has an escaped byte begins with a backslash.
-#[tactic(auto, unfolding(crate::specs::Sizes::line_bytes, receipts::specs::Receipt::receipt_bytes))]
-fn put(line: &mut [u8], shown: &[u8], with_length: bool, bits: u64, name: &[u8]) -> usize
-    requires { (line_bytes ≡ length line.old) × (length shown.now ≤ receipt_bytes) × (length name.now ≤ name_bytes) }
-    ensures { (1 ≤ result) × (result ≤ line_bytes) }
+// Puts what a line shows into its room, after the place of a backslash, and answers where the newline comes.
+#[tactic(auto, unfolding(receipts::specs::Receipt::receipt_bytes))]
+fn put(line: &mut [u8; LINE], shown: &[u8], bits: Option<u64>, name: Name) -> usize
+    requires { length shown.now ≤ receipt_bytes }
+    ensures { (1 ≤ result) × (result < LINE) }
 {
     let a = text::put_bytes(line, 1, shown);
-    let b = put_length(line, a, with_length, bits);
+    let b = put_length(line, a, bits);
     let c = buffers::put(line, b, b"  ");
-    let d = names::put(line, c, name);
-    line[0] = b'\\';
-    line[d] = b'\n';
-    d + 1
+    names::put(line, c, name.bytes)
 }
 
 // A space and the length, if it is asked for.
-fn put_length(line: &mut [u8], from: usize, asked: bool, bits: u64) -> usize
+fn put_length(line: &mut [u8], from: usize, bits: Option<u64>) -> usize
     requires { from + 1 + most_digits ≤ length line.old }
     ensures { (from ≤ result) × (result ≤ from + 1 + most_digits) }
 {
-    if !asked {
-        return from;
+    match bits {
+        Some(bits) => {
+            let after = buffers::put(line, from, b" ");
+            decimal::put_number(line, after, bits)
+        }
+        None => from,
     }
-    let after = buffers::put(line, from, b" ");
-    decimal::put_number(line, after, bits)
 }
 
 // The same for a name and a verdict.
-#[tactic(auto, unfolding(crate::specs::Sizes::line_bytes, receipts::specs::Receipt::receipt_bytes))]
-fn put_verdict(line: &mut [u8], name: &[u8], verdict: &[u8]) -> usize
-    requires { (line_bytes ≡ length line.old) × (length name.now ≤ name_bytes) × (length verdict.now ≤ verdict_bytes) }
-    ensures { (1 ≤ result) × (result ≤ line_bytes) }
+fn put_verdict(line: &mut [u8; LINE], name: Name, verdict: Verdict) -> usize
+    ensures { (1 ≤ result) × (result < LINE) }
 {
-    let a = names::put(line, 1, name);
-    let b = buffers::put(line, a, verdict);
+    let a = names::put(line, 1, name.bytes);
+    buffers::put(line, a, verdict.words())
+}
+
+// Ends a line of a name, and prints it. As sha256sum does, a line whose name has an escaped byte begins with a backslash.
+fn print_ended(
+    rt: &HostRuntime,
+    line: &mut [u8; LINE],
+    end: usize,
+    name: Name,
+) -> Result<(), Unwritten>
+    requires { (1 ≤ end) × (end < LINE) }
+{
     line[0] = b'\\';
-    line[b] = b'\n';
-    b + 1
+    line[end] = b'\n';
+    let begin = names::is_plain(name.bytes) as usize;
+    write(rt, &line[begin..=end])
 }
 
-#[tactic(auto, unfolding(crate::specs::Sizes::line_bytes, receipts::specs::Receipt::receipt_bytes))]
-pub fn buffer() -> [u8; LINE]
-    ensures { line_bytes ≡ length result }
-{
-    [0; LINE]
-}
-
-// Where a line begins: at its backslash if the name has an escaped byte, and after it if not.
-fn begin(name: &[u8]) -> usize
-    ensures { result ≤ 1 }
-{
-    if names::is_plain(name) {
-        return 1;
+// Writes to standard output.
+pub fn write(rt: &HostRuntime, bytes: &[u8]) -> Result<(), Unwritten> {
+    if output::write(rt, b"receipt", bytes) {
+        Ok(())
+    } else {
+        Err(Unwritten)
     }
-    0
 }

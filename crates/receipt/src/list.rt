@@ -1,61 +1,59 @@
 // The list of the receipts that were made, and its tally.
-ghost use Rattle.std.specs.Prelude.{◌≡◌, ◌+◌, ◌≤◌, length};
+ghost use Rattle.std.specs.Prelude.{◌+◌, ◌≤◌, length};
 ghost use Rattle.decimal.specs.Number.{most_digits};
-ghost use Rattle.receipt.specs.Sizes.{list_bytes};
+ghost use Rattle.receipts.specs.Tally.{most_receipts};
 
+use crate::line;
+use crate::line::Unwritten;
 use decimal::DIGITS;
 use finalization::RECEIPT;
-use program::output;
-
-// The bytes of the most receipts that a tally takes.
-const LIST: usize = tally::MOST_RECEIPTS * RECEIPT;
+use receipts::Counts;
+use tally::MOST_RECEIPTS;
 
 // Room for the line of the counts: three, each with a word of at most 10 bytes, and the newline.
 const COUNTS: usize = 3 * (10 + DIGITS) + 1;
 
-#[tactic(auto, unfolding(crate::specs::Sizes::list_bytes, receipts::specs::Tally::most_receipts, receipts::specs::Receipt::receipt_bytes))]
-pub fn buffer() -> [u8; LIST]
-    ensures { list_bytes ≡ length result }
-{
-    [0; LIST]
+// The receipts that were made, as many of them as a tally takes.
+#[derive(Drop)]
+pub struct List {
+    receipts: [[u8; RECEIPT]; MOST_RECEIPTS],
+    count: usize,
+    ghost in_room: { count ≤ most_receipts },
 }
 
-// Puts a receipt into its place of the list, if there is one, and answers how many receipts there are then.
-#[tactic(auto, unfolding(crate::specs::Sizes::list_bytes, receipts::specs::Tally::most_receipts, receipts::specs::Receipt::receipt_bytes))]
-pub fn keep(list: &mut [u8], count: usize, made: bool, receipt: [u8; RECEIPT]) -> usize
-    requires { list_bytes ≡ length list.old }
-{
-    if !made {
-        return count;
+impl List {
+    #[tactic(auto, unfolding(receipts::specs::Tally::most_receipts))]
+    pub fn new() -> List {
+        List {
+            receipts: [[0; RECEIPT]; MOST_RECEIPTS],
+            count: 0,
+        }
     }
-    if tally::MOST_RECEIPTS <= count {
-        return count;
+
+    // Puts a receipt behind the others, if there is room.
+    #[tactic(auto, unfolding(receipts::specs::Tally::most_receipts))]
+    pub fn keep(&mut self, receipt: [u8; RECEIPT]) {
+        if self.count < MOST_RECEIPTS {
+            self.receipts[self.count] = receipt;
+            self.count += 1;
+        }
     }
-    let r = receipt;
-    buffers::put(list, RECEIPT * count, &r);
-    count + 1
+
+    // Prints the last line: the tally of the receipts.
+    #[tactic(auto, unfolding(receipts::specs::Tally::most_receipts))]
+    pub fn print_tally(&self, rt: &HostRuntime) -> Result<(), Unwritten> {
+        let kinds = tally::tally(self.receipts[..self.count].as_flattened());
+        print_counts(rt, numbered::counts(kinds))
+    }
 }
 
-// Prints the last line: the tally of the receipts.
-#[tactic(auto, unfolding(crate::specs::Sizes::list_bytes, receipts::specs::Tally::most_receipts, receipts::specs::Receipt::receipt_bytes))]
-pub fn print_tally(rt: &HostRuntime, list: &[u8], count: usize) -> bool
-    requires { list_bytes ≡ length list.now }
-{
-    if tally::MOST_RECEIPTS < count {
-        return false;
-    }
-    let end = RECEIPT * count;
-    let t = numbered::counts(tally::tally(&list[0..end]));
-    print_counts(rt, t.firsts, t.reprints, t.blanks)
-}
-
-fn print_counts(rt: &HostRuntime, firsts: u64, reprints: u64, blanks: u64) -> bool {
+fn print_counts(rt: &HostRuntime, c: Counts) -> Result<(), Unwritten> {
     let mut line = [0u8; COUNTS];
-    let a = put_count(&mut line, 0, b"firsts ", firsts);
-    let b = put_count(&mut line, a, b" reprints ", reprints);
-    let c = put_count(&mut line, b, b" blanks ", blanks);
-    let end = buffers::put(&mut line, c, b"\n");
-    output::write(rt, b"receipt", &line[0..end])
+    let firsts = put_count(&mut line, 0, b"firsts ", c.firsts);
+    let reprints = put_count(&mut line, firsts, b" reprints ", c.reprints);
+    let blanks = put_count(&mut line, reprints, b" blanks ", c.blanks);
+    let end = buffers::put(&mut line, blanks, b"\n");
+    line::write(rt, &line[..end])
 }
 
 // Words and a count, from a place on.
@@ -63,6 +61,6 @@ fn put_count(line: &mut [u8], from: usize, words: &[u8], x: u64) -> usize
     requires { from + length words.now + most_digits ≤ length line.old }
     ensures { result ≤ from + length words.now + most_digits }
 {
-    let a = buffers::put(line, from, words);
-    decimal::put_number(line, a, x)
+    let after = buffers::put(line, from, words);
+    decimal::put_number(line, after, x)
 }

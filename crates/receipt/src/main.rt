@@ -6,40 +6,41 @@ mod arguments;
 mod check;
 mod entry;
 mod files;
+mod job;
 mod key;
 mod line;
 mod list;
 mod messages;
+mod name;
 mod options;
 
+use job::Job;
 use options::Asked;
+use program::arguments::Start;
 use program::status;
+use program::status::Status;
 
 fn main(rt: HostRuntime) {
-    let a = options::read(&rt);
-    let s = run(&rt, a);
+    let s = match options::read(&rt) {
+        Ok(asked) => run(&rt, asked),
+        Err(s) => s,
+    };
     status::end(&rt, b"receipt", s);
 }
 
 // Does what is asked for, and answers how it ended.
-fn run(rt: &HostRuntime, a: Asked) -> u64 {
-    if a.status != status::DONE {
-        return a.status;
+fn run(rt: &HostRuntime, asked: Asked) -> Status {
+    match asked.key {
+        Some(file) => with_key(rt, asked, file),
+        None => files::all(&Job::without_key(rt, asked)),
     }
-    if a.key == 0 {
-        return files::all(rt, a, b"");
-    }
-    with_key(rt, a)
 }
 
-// Reads the key, and goes on if that went well.
-fn with_key(rt: &HostRuntime, mut a: Asked) -> u64 {
-    let mut room = key::buffer();
-    let k = key::read(rt, a.key, a.key_from, &mut room);
-    let size = k.size;
-    if size == 0 {
-        return status::FAILED;
+// Reads the key from the file that an option names, and goes on if that went well.
+fn with_key(rt: &HostRuntime, asked: Asked, file: Start) -> Status {
+    let mut room = [0; key::ROOM];
+    match key::read(rt, file, &mut room) {
+        Some(key) => files::all(&Job::with_key(rt, asked, &room[..key.size], key.is_input)),
+        None => Status::Failed,
     }
-    a.input_taken = k.is_input;
-    files::all(rt, a, &room[0..size])
 }

@@ -16,7 +16,7 @@ ghost use Rattle.replay.specs.Sizes.{string_bytes, lent_bytes, room_bytes};
 
 use orders::Record;
 use program::files::Source;
-use program::lines::Place;
+use program::status::Status;
 use program::{arguments, files, lines, messages, status};
 use script::ROLL;
 use std::io::Error;
@@ -72,8 +72,8 @@ fn main(rt: HostRuntime) {
     status::end(&rt, b"replay", s);
 }
 
-fn run(rt: &HostRuntime, a: options::Asked) -> u64 {
-    if a.status != status::DONE {
+fn run(rt: &HostRuntime, a: options::Asked) -> Status {
+    if a.status != Status::Done {
         return a.status;
     }
     if a.file == 0 {
@@ -83,38 +83,36 @@ fn run(rt: &HostRuntime, a: options::Asked) -> u64 {
 }
 
 // Replays the file that argument i names.
-fn named(rt: &HostRuntime, i: usize) -> u64 {
+fn named(rt: &HostRuntime, i: usize) -> Status {
     let mut text = io::buffer();
     match arguments::get(rt, i, &mut text) {
-        Some(n) => file(rt, &text[..n]),
+        Some(name) => file(rt, name),
         None => {
             messages::say_alone(rt, b"replay", b"the file's name is too long");
-            status::FAILED
+            Status::Failed
         }
     }
 }
 
 // Replays the file of a name.
-fn file(rt: &HostRuntime, name: &[u8]) -> u64 {
+fn file(rt: &HostRuntime, name: &[u8]) -> Status {
     match files::open(rt, b"replay", name) {
-        Some(mut source) => {
-            let e = with_buffers(rt, &mut source);
+        Some(source) => {
+            let e = with_buffers(rt, source);
             if let Some(error) = e.unread {
                 messages::fail(rt, b"replay", name, error);
             }
-            files::close(source);
-            status::of(e.unread.is_none() & e.written)
+            Status::from(e.unread.is_none() & e.written)
         }
-        None => status::FAILED,
+        None => Status::Failed,
     }
 }
 
-fn with_buffers(rt: &HostRuntime, source: &mut Source) -> Ended {
-    let mut chunk = io::large_buffer();
+fn with_buffers(rt: &HostRuntime, source: Source) -> Ended {
     let mut line = line_buffer();
     let mut given = bytes_buffer();
     let mut lent = lent_buffer();
-    replay(rt, source, &mut chunk, &mut line, &mut given, &mut lent)
+    replay(rt, source, &mut line, &mut given, &mut lent)
 }
 
 fn line_buffer() -> [u8; ROOM]
@@ -135,11 +133,10 @@ fn lent_buffer() -> [u8; LENT_BYTES]
     [0; LENT_BYTES]
 }
 
-// A proved loop has to end, and nothing says that the input does, so the turns are counted down from a number that no run uses up.
+// A proved loop has to end, and nothing says that the input does, so the lines are counted up to a number that no run comes to.
 fn replay(
     rt: &HostRuntime,
-    source: &mut Source,
-    chunk: &mut [u8],
+    source: Source,
     line: &mut [u8],
     given: &mut [u8],
     lent: &mut [u8],
@@ -147,15 +144,23 @@ fn replay(
     requires { room_bytes ≤ length line.old }
 {
     let mut k = start();
-    let mut p = lines::start();
-    let mut turns = u64::MAX;
-    while turns > 0 && k.on & p.more {
-        p = lines::go_on(p, source, LINE, chunk, line);
-        k = answer(rt, k, p, line, given, lent);
-        turns -= 1;
+    let mut lines = lines::of(source);
+    let mut unread = None;
+    for _ in 0..u64::MAX {
+        match lines.next(line, LINE) {
+            Ok(Some(n)) => k = answer(rt, k, n, line, given, lent),
+            Ok(None) => break,
+            Err(e) => {
+                unread = Some(e);
+                break;
+            }
+        }
+        if !k.on {
+            break;
+        }
     }
     Ended {
-        unread: p.failed,
+        unread,
         written: k.on,
     }
 }
@@ -179,21 +184,20 @@ fn after(r: Record, roll: u64, engine: u64, lines: u64, faults: u64, on: bool) -
     }
 }
 
-// Answers the line that has ended. Where none has it answers an empty one, which prints nothing, since a branch would cost with all the buffers.
+// Answers a line of n bytes.
 fn answer(
     rt: &HostRuntime,
     k: Kept,
-    p: Place,
+    n: usize,
     line: &mut [u8],
     given: &mut [u8],
     lent: &mut [u8],
 ) -> Kept
     requires { room_bytes ≤ length line.old }
 {
-    let n = lines::ended_bytes(p);
     let c = calls::answer(n, line, k.state, given, lent);
     let next = c.next;
-    let number = counted(k.lines, p.ended);
+    let number = std::num::wrapping_add_u64(k.lines, 1);
     let faults = explained(rt, k.faults, number, c.what, n, line);
     let printed = reply::print(rt, n, line, number, c, lent);
     after(next, c.roll, c.engine, number, faults, printed)
@@ -206,12 +210,4 @@ fn explained(rt: &HostRuntime, faults: u64, k: u64, what: u64, n: usize, line: &
     }
     let m = words::least(n, line.len());
     calls::explain(rt, faults, k, &line[0..m])
-}
-
-// How many lines have ended with this one.
-fn counted(lines: u64, ended: bool) -> u64 {
-    if ended {
-        return std::num::wrapping_add_u64(lines, 1);
-    }
-    lines
 }

@@ -1,31 +1,41 @@
 // What is asked for: a script's file, help or the version.
-use program::arguments::{Argument, FILE, UNKNOWN, VALUED};
-use program::{arguments, status};
+use program::arguments;
+use program::arguments::{Argument, Named, Wrong};
+use program::status::Status;
+use std::convert::Infallible;
 
-// The options, by their places in the table.
-const HELP: usize = 0;
+// The options.
+#[derive(Clone, Copy, Debug, PartialEq, Eq)]
+enum Flag {
+    Help,
+    Version,
+}
 
-const HELP_LONG: usize = 2;
+impl Named for Flag {
+    fn of_name(name: &[u8]) -> Option<Flag> {
+        match name {
+            b"-h" | b"--help" => Some(Flag::Help),
+            b"--version" => Some(Flag::Version),
+            _ => None,
+        }
+    }
+}
 
-const VERSION: usize = 4;
+// What an argument is. No option takes a value.
+type Is = Argument<Flag, Infallible>;
 
 #[derive(Clone, Copy)]
 pub struct Asked {
     // The argument that names the script's file, 0 if it is standard input.
     pub file: usize,
-    // DONE; or else nothing is done, since an argument is wrong, or help or the version is asked for.
-    pub status: u64,
+    // Done; or else nothing is done, since an argument is wrong, or help or the version is asked for.
+    pub status: Status,
 }
 
 pub fn read(rt: &HostRuntime) -> Asked {
-    let end = arguments::count(rt);
     let mut a = nothing();
-    let mut t = arguments::start();
-    let mut i: usize = 1;
-    while i < end {
-        t = next(rt, t, i);
-        a = with(rt, a, t, i);
-        i += 1;
+    for t in arguments::all(rt) {
+        a = with(rt, a, t);
     }
     a
 }
@@ -33,26 +43,20 @@ pub fn read(rt: &HostRuntime) -> Asked {
 fn nothing() -> Asked {
     Asked {
         file: 0,
-        status: status::DONE,
+        status: Status::Done,
     }
-}
-
-// Argument i, which comes after the one before.
-fn next(rt: &HostRuntime, before: Argument, i: usize) -> Argument {
-    arguments::next(rt, before, i, b"-h - --help - --version -")
 }
 
 // What is asked for with argument i. Of several faults the first is said.
-fn with(rt: &HostRuntime, mut a: Asked, t: Argument, i: usize) -> Asked {
-    if a.status != status::DONE {
+fn with(rt: &HostRuntime, mut a: Asked, t: Is) -> Asked {
+    if a.status != Status::Done {
         return a;
     }
-    let is = t.is;
-    match is {
-        HELP | HELP_LONG => a.status = status::HELP,
-        VERSION => a.status = status::VERSION,
-        FILE => a = with_file(rt, a, i),
-        UNKNOWN | VALUED => a = no_option(rt, a, i, is),
+    match t {
+        Argument::Flag(Flag::Help) => a.status = Status::Help,
+        Argument::Flag(Flag::Version) => a.status = Status::Version,
+        Argument::File(i) => a = with_file(rt, a, i),
+        Argument::Wrong(i, why) => a = no_option(rt, a, i, why),
         _ => {}
     }
     a
@@ -72,12 +76,12 @@ fn with_file(rt: &HostRuntime, mut a: Asked, i: usize) -> Asked {
     a
 }
 
-fn no_option(rt: &HostRuntime, a: Asked, i: usize, is: usize) -> Asked {
-    arguments::say_no_option(rt, b"replay", i, is);
+fn no_option(rt: &HostRuntime, a: Asked, i: usize, why: Wrong) -> Asked {
+    arguments::say_wrong(rt, b"replay", i, why);
     misused(a)
 }
 
 fn misused(mut a: Asked) -> Asked {
-    a.status = status::MISUSED;
+    a.status = Status::Misused;
     a
 }

@@ -1,9 +1,6 @@
 -- `replay::replay` is safe and ends. Assumes nothing.
-use Rattle.std.proofs.Common.{length, ◌≤◌, ◌≡◌}
+use Rattle.std.proofs.Common.{length, ◌≡◌}
 use Rattle.replay.proofs.replay.Given as goal
 
-abbrev pub invariant-loop-turns : goal.invariant-loop-turns
-invariant-loop-turns l = (length l.line ≡ length l.initial.line) × (l.p.from ≤ l.p.to) × (l.p.to ≤ length l.chunk)
-
-abbrev pub decreases-loop-turns : goal.decreases-loop-turns
-decreases-loop-turns l = l.turns
+abbrev pub invariant-loop : goal.invariant-loop
+invariant-loop l = length l.line ≡ length l.initial.line

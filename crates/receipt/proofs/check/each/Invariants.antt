@@ -1,9 +1,7 @@
--- `receipt::check::each` is safe and ends. The measure is the number of turns that are left. Assumes nothing.
+-- `receipt::check::each` is safe and ends: each turn counts one line at most. Assumes nothing.
 use Rattle.std.proofs.Common.{length, ◌≤◌, ◌≡◌}
+use Rattle.receipt.specs.Found.{counted}
 use Rattle.receipt.proofs.check.each.Given as goal
 
-abbrev pub invariant-loop-turns : goal.invariant-loop-turns
-invariant-loop-turns l = (length l.line ≡ length l.initial.line) × (l.p.from ≤ l.p.to) × (l.p.to ≤ length l.chunk)
-
-abbrev pub decreases-loop-turns : goal.decreases-loop-turns
-decreases-loop-turns l = l.turns
+abbrev pub invariant-loop : goal.invariant-loop
+invariant-loop l = (counted l.found ≤ l.counter) × (length l.room ≡ length l.initial.room)
