@@ -1,92 +1,129 @@
-// The lines on the roll.
+// The roll that is kept from line to line, and the lines on it.
 ghost use Rattle.std.specs.Prelude.{◌≤◌, length};
 
+use crate::State;
 use crate::reply::Reply;
-use crate::words::{Bounds, WORDS};
-use crate::{BYTES, State, reply, words};
+use crate::words::Words;
+use faults::Wanted;
 use orders::{Outcome, Record};
 use runs::Engine;
+use script::ROLL;
 
-// The first digit of the kinds of these lines in the table of calls.rt, and the kinds.
-pub const FILE: u64 = 3;
-
-const ROLL: u64 = 30;
-
-const ROLLSET: u64 = 31;
-
-const SHOWROLL: u64 = 32;
-
-const APPENDROLL: u64 = 33;
-
-const REWINDROLL: u64 = 34;
-
-const ENDROLL: u64 = 35;
-
-// What a call of a kind is lent: the roll, which stands behind the room for outputs and has this size, or the outputs up to a place.
-pub fn lent_part(kind: u64, outputs: u64, roll: u64, lent: &[u8]) -> Bounds
-    ensures { (result.from ≤ result.to) × (result.to ≤ length lent.now) }
-{
-    if kind / 10 == FILE {
-        return words::within(
-            BYTES as u64,
-            std::num::wrapping_add_u64(BYTES as u64, roll),
-            lent,
-        );
-    }
-    words::within(0, outputs, lent)
+// The bytes of a roll stand at the front of their room. That the size is never above the room's is no ghost field: with one the check does not cover yet
+// that the room is lent as &mut, so each use cuts the size to the room.
+#[derive(Drop)]
+pub struct Roll {
+    room: [u8; ROLL],
+    size: usize,
 }
 
-// The state in which a line of a kind is answered: of roll and rollset the roll already has the size that they say.
-pub fn resized(kind: u64, v: [u64; WORDS], mut s: State) -> State {
-    match kind {
-        ROLL | ROLLSET => s.roll = v[0],
-        _ => {}
+impl Roll {
+    // A roll without bytes.
+    pub fn new() -> Roll {
+        Roll {
+            room: crate::zeros(),
+            size: 0,
+        }
     }
-    s
-}
 
-// Answers a line of a kind. The roll is already cut to its size.
-pub fn answer(kind: u64, v: [u64; WORDS], s: State, given: &[u8], roll: &mut [u8]) -> Reply {
-    match kind {
-        ROLL => zeros(s, roll),
-        ROLLSET => set(v, s, given, roll),
-        SHOWROLL => reply::roll(roll.len() as u64, s.record),
-        _ => changed(kind, v, s, given, roll),
+    pub fn bytes(&self) -> &[u8]
+        ensures { length result.now ≤ ROLL }
+    {
+        &self.room[..self.size.min(ROLL)]
+    }
+
+    // Makes it so many zero bytes, if a roll can have as many.
+    fn clear(&mut self, size: u64) {
+        if size <= ROLL as u64 {
+            self.size = size as usize;
+            self.room.fill(0);
+        }
+    }
+
+    // Makes it these bytes, if a roll can have as many.
+    fn set(&mut self, bytes: &[u8]) {
+        if bytes.len() <= ROLL {
+            self.size = bytes.len();
+            self.room[..bytes.len()].copy_from_slice(bytes);
+        }
     }
 }
 
-// roll SIZE
-fn zeros(s: State, roll: &mut [u8]) -> Reply {
-    buffers::fill(roll, 0);
-    reply::plain(reply::NAME, s.record)
+#[derive(Clone, Copy, Debug, PartialEq, Eq)]
+pub enum Line {
+    Clear,
+    Set,
+    Show,
+    Changed(Change),
 }
 
-// rollset BYTES
-fn set(v: [u64; WORDS], s: State, given: &[u8], roll: &mut [u8]) -> Reply {
-    words::copy(words::part(given, 0, v[0]), roll);
-    reply::plain(reply::NAME, s.record)
+// The calls that change an order and its roll.
+#[derive(Clone, Copy, Debug, PartialEq, Eq)]
+pub enum Change {
+    Append,
+    Rewind,
+    End,
 }
 
-fn changed(kind: u64, v: [u64; WORDS], s: State, given: &[u8], roll: &mut [u8]) -> Reply {
-    let o = call(runs::engine_of(s.engine), kind, v, s.record, given, roll);
-    reply::count(o.number, o.count, o.next)
+impl Line {
+    pub fn of_name(name: &[u8]) -> Option<Line> {
+        match name {
+            b"roll" => Some(Line::Clear),
+            b"rollset" => Some(Line::Set),
+            b"showroll" => Some(Line::Show),
+            b"appendroll" => Some(Line::Changed(Change::Append)),
+            b"rewindroll" => Some(Line::Changed(Change::Rewind)),
+            b"endroll" => Some(Line::Changed(Change::End)),
+            _ => None,
+        }
+    }
+
+    pub fn form(self) -> &'static [Wanted] {
+        match self {
+            Line::Clear => &[Wanted::RollSize],
+            Line::Set => &[Wanted::RollBytes],
+            Line::Show => &[],
+            Line::Changed(Change::Append) => &[Wanted::Bytes],
+            Line::Changed(Change::Rewind) => &[Wanted::Number, Wanted::Bytes],
+            Line::Changed(Change::End) => &[Wanted::Number],
+        }
+    }
 }
 
-fn call(
-    engine: Engine,
-    kind: u64,
-    v: [u64; WORDS],
-    r: Record,
-    given: &[u8],
-    roll: &mut [u8],
-) -> Outcome {
-    match kind {
+// Answers a line.
+pub fn answer(line: Line, w: Words, s: &mut State) -> Reply {
+    match line {
+        // roll SIZE
+        Line::Clear => {
+            s.roll.clear(w.number(0));
+            Reply::Name
+        }
+        // rollset BYTES
+        Line::Set => {
+            s.roll.set(w.bytes(0));
+            Reply::Name
+        }
+        // showroll
+        Line::Show => Reply::Roll,
+        Line::Changed(change) => changed(change, w, s),
+    }
+}
+
+// Makes a call on the record and the roll, which is cut to its size.
+fn changed(change: Change, w: Words, s: &mut State) -> Reply {
+    let n = s.roll.size.min(ROLL);
+    let o = call(s.engine, change, w, s.record, &mut s.roll.room[..n]);
+    s.record = o.next;
+    Reply::Count(o.number, o.count)
+}
+
+fn call(engine: Engine, change: Change, w: Words, r: Record, roll: &mut [u8]) -> Outcome {
+    match change {
         // appendroll BYTES
-        APPENDROLL => append_roll::append_roll(engine, r, words::part(given, 0, v[0]), roll),
+        Change::Append => append_roll::append_roll(engine, r, w.bytes(0), roll),
         // rewindroll KEEP BYTES
-        REWINDROLL => rewind_roll::rewind_roll(engine, r, v[0], words::part(given, 0, v[1]), roll),
+        Change::Rewind => rewind_roll::rewind_roll(engine, r, w.number(0), w.bytes(1), roll),
         // endroll KEEP
-        ENDROLL => rewind_roll::end_roll(engine, r, v[0], roll),
-        _ => record::refused(0, r),
+        Change::End => rewind_roll::end_roll(engine, r, w.number(0), roll),
     }
 }
