@@ -1,7 +1,8 @@
 // The lines, by the file that answers each.
+use crate::buffer::Buffer;
 use crate::reply::Reply;
 use crate::words::Words;
-use crate::{State, checks, order, outputs, records, rolls, words};
+use crate::{BYTES, State, checks, order, outputs, records, rolls, words};
 use faults::Wanted;
 
 // A line that is a call.
@@ -45,11 +46,20 @@ impl Line {
 }
 
 // Makes the call that a line says, if it says one. Its BYTES and its outputs are put into the two buffers.
-pub fn answer(line: &[u8], s: &mut State, given: &mut [u8], outputs: &mut [u8]) -> Option<Reply> {
+pub fn answer(
+    line: &[u8],
+    s: &mut State,
+    given: &mut Buffer<BYTES>,
+    outputs: &mut Buffer<BYTES>,
+) -> Option<Reply> {
     let kind = Line::of_name(script::word(line, 0))?;
     let values = words::read(line, kind.form(), given, outputs)?;
-    let lent = outputs.get_mut(..values.lent)?;
-    in_file(kind, Words::new(&values, given), s, lent)
+    in_file(
+        kind,
+        Words::new(values, given.bytes()),
+        s,
+        outputs.bytes_mut(),
+    )
 }
 
 // Answers a line with its words. The call is lent the outputs.

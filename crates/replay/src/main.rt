@@ -1,6 +1,7 @@
 // Replays an order: reads calls from a file, one to a line, makes each, and prints its answer before it waits for the next line.
 #![tactic(auto)]
 
+mod buffer;
 mod calls;
 mod checks;
 mod options;
@@ -11,12 +12,13 @@ mod reply;
 mod rolls;
 mod words;
 
+use buffer::Buffer;
 use orders::Record;
 use program::lines::Lines;
 use program::status::Status;
 use program::{arguments, files, lines, messages, status};
-use rolls::Roll;
 use runs::Engine;
+use script::ROLL;
 use std::io::Result;
 
 // The most bytes of a line, without its newline.
@@ -34,7 +36,7 @@ struct State {
     record: Record,
     // It runs the blocks.
     engine: Engine,
-    roll: Roll,
+    roll: Buffer<ROLL>,
     // How many lines were no call.
     faults: u64,
 }
@@ -77,9 +79,9 @@ fn file(rt: &HostRuntime, name: &[u8]) -> Status {
 // Replays the lines. The answer is whether all that they print could be written.
 // A proved loop has to end, and nothing says that the input does, so the lines are counted up to a number that no run comes to.
 fn replay(rt: &HostRuntime, mut lines: Lines) -> Result<bool> {
-    let mut line = zeros::<ROOM>();
-    let mut given = zeros::<BYTES>();
-    let mut outputs = zeros::<BYTES>();
+    let mut line = room();
+    let mut given = Buffer::new();
+    let mut outputs = Buffer::new();
     let mut s = start();
     for k in 1..u64::MAX {
         let Some(n) = next(&mut lines, &mut line)? else {
@@ -97,9 +99,9 @@ fn next(lines: &mut Lines, line: &mut [u8; ROOM]) -> Result<Option<usize>> {
     lines.next(line, LINE)
 }
 
-// A buffer. Its bytes are not counted out where it is made in a function of its own.
-fn zeros<const N: usize>() -> [u8; N] {
-    [0; N]
+// Room for a line. Its bytes are not counted out where it is made in a function of its own.
+fn room() -> [u8; ROOM] {
+    [0; ROOM]
 }
 
 // The record is all zeros at first, as a refused Open gives it, and the engine is the first.
@@ -107,7 +109,7 @@ fn start() -> State {
     State {
         record: record::no_record(),
         engine: Engine::Words,
-        roll: Roll::new(),
+        roll: Buffer::new(),
         faults: 0,
     }
 }
@@ -119,8 +121,8 @@ fn answer(
     n: usize,
     line: &mut [u8; ROOM],
     s: &mut State,
-    given: &mut [u8; BYTES],
-    outputs: &mut [u8; BYTES],
+    given: &mut Buffer<BYTES>,
+    outputs: &mut Buffer<BYTES>,
 ) -> bool {
     if LINE < n {
         return reply::print_fault(rt, k, line, b"too long");

@@ -55,8 +55,7 @@ impl Line {
 
 // Answers a line. The call is lent its output alone, cut to its size.
 pub fn answer(line: Line, w: Words, s: &State, output: &mut [u8]) -> Reply {
-    let number = call(s.engine, line, w, s.record, output);
-    Reply::Output(number, output.len())
+    Reply::Output(call(s.engine, line, w, s.record, output))
 }
 
 fn call(engine: Engine, line: Line, w: Words, r: Record, output: &mut [u8]) -> u32 {

@@ -4,6 +4,7 @@ ghost use Rattle.limits.specs.Limits.{longest_block};
 ghost use Rattle.script.specs.Numbers.{wide_chain};
 ghost use Rattle.decimal.specs.Number.{most_digits};
 
+use crate::buffer::Buffer;
 use crate::{BYTES, LINE, ROOM, State};
 use limits::LONGEST_BLOCK;
 use orders::Record;
@@ -21,8 +22,8 @@ pub enum Reply {
     Count(u32, u64),
     // A yes or a no, behind 0.
     Truth(bool),
-    // The number, and the output, of so many bytes.
-    Output(u32, usize),
+    // The number, and the output.
+    Output(u32),
     // What Tally counted.
     Tally(Counts),
     // The same with the place of a malformed receipt.
@@ -38,7 +39,7 @@ pub fn print(
     line: &mut [u8; ROOM],
     reply: Reply,
     s: &State,
-    outputs: &[u8; BYTES],
+    outputs: &Buffer<BYTES>,
 ) -> bool {
     let name = script::until(&line[..n.min(LINE)], b' ');
     let end = put_reply(line, name, reply, s, outputs);
@@ -70,7 +71,7 @@ fn put_reply(
     from: usize,
     reply: Reply,
     s: &State,
-    outputs: &[u8; BYTES],
+    outputs: &Buffer<BYTES>,
 ) -> usize
     requires { from ≤ LINE }
     ensures { result < ROOM }
@@ -81,9 +82,7 @@ fn put_reply(
         Reply::Count(number, count) => put_numbers(line, from, &[number as u64, count]),
         Reply::Truth(true) => buffers::put(line, from, b" 0 yes"),
         Reply::Truth(false) => buffers::put(line, from, b" 0 no"),
-        Reply::Output(number, size) => {
-            put_output(line, from, number, &outputs[..size.min(BYTES)])
-        }
+        Reply::Output(number) => put_output(line, from, number, outputs.bytes()),
         Reply::Tally(t) => put_numbers(
             line,
             from,

@@ -1,53 +1,10 @@
-// The roll that is kept from line to line, and the lines on it.
-ghost use Rattle.std.specs.Prelude.{◌≤◌, length};
-
+// The lines on the roll.
 use crate::State;
 use crate::reply::Reply;
 use crate::words::Words;
 use faults::Wanted;
 use orders::{Outcome, Record};
 use runs::Engine;
-use script::ROLL;
-
-// The bytes of a roll stand at the front of their room. That the size is never above the room's is no ghost field: with one the check does not cover yet
-// that the room is lent as &mut, so each use cuts the size to the room.
-#[derive(Drop)]
-pub struct Roll {
-    room: [u8; ROLL],
-    size: usize,
-}
-
-impl Roll {
-    // A roll without bytes.
-    pub fn new() -> Roll {
-        Roll {
-            room: crate::zeros(),
-            size: 0,
-        }
-    }
-
-    pub fn bytes(&self) -> &[u8]
-        ensures { length result.now ≤ ROLL }
-    {
-        &self.room[..self.size.min(ROLL)]
-    }
-
-    // Makes it so many zero bytes, if a roll can have as many.
-    fn clear(&mut self, size: u64) {
-        if size <= ROLL as u64 {
-            self.size = size as usize;
-            self.room.fill(0);
-        }
-    }
-
-    // Makes it these bytes, if a roll can have as many.
-    fn set(&mut self, bytes: &[u8]) {
-        if bytes.len() <= ROLL {
-            self.size = bytes.len();
-            self.room[..bytes.len()].copy_from_slice(bytes);
-        }
-    }
-}
 
 #[derive(Clone, Copy, Debug, PartialEq, Eq)]
 pub enum Line {
@@ -95,7 +52,8 @@ pub fn answer(line: Line, w: Words, s: &mut State) -> Reply {
     match line {
         // roll SIZE
         Line::Clear => {
-            s.roll.clear(w.number(0));
+            s.roll.clear();
+            let _ = s.roll.add(w.number(0) as usize, 0);
             Reply::Name
         }
         // rollset BYTES
@@ -109,10 +67,9 @@ pub fn answer(line: Line, w: Words, s: &mut State) -> Reply {
     }
 }
 
-// Makes a call on the record and the roll, which is cut to its size.
+// Makes a call on the record and the roll.
 fn changed(change: Change, w: Words, s: &mut State) -> Reply {
-    let n = s.roll.size.min(ROLL);
-    let o = call(s.engine, change, w, s.record, &mut s.roll.room[..n]);
+    let o = call(s.engine, change, w, s.record, s.roll.bytes_mut());
     s.record = o.next;
     Reply::Count(o.number, o.count)
 }

@@ -1,17 +1,19 @@
 // The words of a line behind its name, read by the form of its call.
+use crate::BYTES;
+use crate::buffer::Buffer;
 use faults::Wanted;
 use script::{ENGINES, OUTPUT, ROLL};
 use std::ops::RangeInclusive;
 
 // The most words of a line behind its name.
-const WORDS: usize = 12;
+pub const WORDS: usize = 12;
 
 // What each place of an output holds before the call, where the line says its SIZE alone.
 const UNTOUCHED: u8 = 0xa5;
 
 // What a word says.
 #[derive(Clone, Copy, Debug)]
-enum Value {
+pub enum Value {
     // A number, a SIZE or the number of an engine.
     Number(u64),
     // LAST.
@@ -20,53 +22,44 @@ enum Value {
     Part(usize, usize),
 }
 
-// What the words of a line say, one value for each.
-#[derive(Clone, Copy, Debug)]
-pub struct Values {
-    values: [Value; WORDS],
-    // BYTES stand end to end in one buffer, up to here.
-    given: usize,
-    // The outputs that a call is lent stand end to end in another, up to here.
-    pub lent: usize,
-}
-
-// Reads the words of a line, whose name comes first, and puts their bytes into the buffers. The answer is nothing where they are not those of the form.
-pub fn read(line: &[u8], form: &[Wanted], given: &mut [u8], outputs: &mut [u8]) -> Option<Values> {
-    let mut read = Values {
-        values: [Value::Number(0); WORDS],
-        given: 0,
-        lent: 0,
-    };
+// Reads the words of a line, whose name comes first: one value for each. BYTES stand end to end in one buffer, and the outputs that a call is lent in the
+// other. The answer is nothing where the words are not those of the form.
+pub fn read(
+    line: &[u8],
+    form: &[Wanted],
+    given: &mut Buffer<BYTES>,
+    outputs: &mut Buffer<BYTES>,
+) -> Option<[Value; WORDS]> {
+    given.clear();
+    outputs.clear();
+    let mut values = [Value::Number(0); WORDS];
     let mut words = line.split(|c| *c == b' ').skip(1);
     for (i, wanted) in form.iter().enumerate() {
-        let value = read.value(words.next()?, *wanted, given, outputs)?;
-        *read.values.get_mut(i)? = value;
+        let value = read_word(words.next()?, *wanted, given, outputs)?;
+        *values.get_mut(i)? = value;
     }
     if words.next().is_some() {
         return None;
     }
-    Some(read)
+    Some(values)
 }
 
-impl Values {
-    // What the next word says, if it is what it has to be.
-    fn value(
-        &mut self,
-        word: &[u8],
-        wanted: Wanted,
-        given: &mut [u8],
-        outputs: &mut [u8],
-    ) -> Option<Value> {
-        match wanted {
-            Wanted::Number => number(word, 0..=u64::MAX),
-            Wanted::RollSize => number(word, 0..=ROLL as u64),
-            Wanted::Engine => number(word, 1..=ENGINES),
-            Wanted::Last => last(word),
-            Wanted::Size => output(word, &mut self.lent, outputs),
-            Wanted::Lent => bytes(word, &mut self.lent, outputs),
-            Wanted::Bytes => bytes(word, &mut self.given, given),
-            Wanted::RollBytes => roll_bytes(word, &mut self.given, given),
-        }
+// What a word says, if it is what it has to be.
+fn read_word(
+    word: &[u8],
+    wanted: Wanted,
+    given: &mut Buffer<BYTES>,
+    outputs: &mut Buffer<BYTES>,
+) -> Option<Value> {
+    match wanted {
+        Wanted::Number => number(word, 0..=u64::MAX),
+        Wanted::RollSize => number(word, 0..=ROLL as u64),
+        Wanted::Engine => number(word, 1..=ENGINES),
+        Wanted::Last => last(word),
+        Wanted::Size => output(word, outputs),
+        Wanted::Lent => bytes(word, outputs),
+        Wanted::Bytes => bytes(word, given),
+        Wanted::RollBytes => roll_bytes(word, given),
     }
 }
 
@@ -87,65 +80,58 @@ fn last(word: &[u8]) -> Option<Value> {
     Some(Value::Byte(byte[0]))
 }
 
-// SIZE of an output, which is put behind the end of those that the buffer has.
-fn output(word: &[u8], end: &mut usize, outputs: &mut [u8]) -> Option<Value> {
+// SIZE of an output.
+fn output(word: &[u8], outputs: &mut Buffer<BYTES>) -> Option<Value> {
     let size = script::read_number(word)?;
     if OUTPUT < size {
         return None;
     }
-    let from = *end;
-    let to = from.checked_add(size as usize)?;
-    outputs.get_mut(from..to)?.fill(UNTOUCHED);
-    *end = to;
+    let (from, to) = outputs.add(size as usize, UNTOUCHED)?;
     Some(Value::Part(from, to))
 }
 
-// BYTES, which are put behind the end of those that the buffer has.
-fn bytes(word: &[u8], end: &mut usize, room: &mut [u8]) -> Option<Value> {
-    let from = *end;
-    let n = hexadecimal::read_bytes(word, room.get_mut(from..)?)?;
-    let to = from.checked_add(n)?;
-    *end = to;
+fn bytes(word: &[u8], buffer: &mut Buffer<BYTES>) -> Option<Value> {
+    let (from, to) = buffer.read(word)?;
     Some(Value::Part(from, to))
 }
 
 // BYTES of a roll. Each byte has two digits.
-fn roll_bytes(word: &[u8], end: &mut usize, room: &mut [u8]) -> Option<Value> {
+fn roll_bytes(word: &[u8], given: &mut Buffer<BYTES>) -> Option<Value> {
     if 2 * ROLL < word.len() {
         return None;
     }
-    bytes(word, end, room)
+    bytes(word, given)
 }
 
 // The words of a call, by their places behind the name. A word of another kind is read as 0 or as no bytes.
 #[derive(Clone, Copy, Debug)]
 pub struct Words<'a> {
-    values: &'a Values,
-    // The buffer of BYTES.
+    values: [Value; WORDS],
+    // BYTES, end to end.
     given: &'a [u8],
 }
 
 impl<'a> Words<'a> {
-    pub fn new(values: &'a Values, given: &'a [u8]) -> Words<'a> {
+    pub fn new(values: [Value; WORDS], given: &'a [u8]) -> Words<'a> {
         Words { values, given }
     }
 
     pub fn number(&self, i: usize) -> u64 {
-        match self.values.values.get(i) {
+        match self.values.get(i) {
             Some(Value::Number(x)) => *x,
             _ => 0,
         }
     }
 
     pub fn byte(&self, i: usize) -> u8 {
-        match self.values.values.get(i) {
+        match self.values.get(i) {
             Some(Value::Byte(x)) => *x,
             _ => 0,
         }
     }
 
     pub fn bytes(&self, i: usize) -> &'a [u8] {
-        match self.values.values.get(i) {
+        match self.values.get(i) {
             Some(Value::Part(from, to)) => self.given.get(*from..*to).unwrap_or_default(),
             _ => b"",
         }
