@@ -132,7 +132,7 @@ fn answer(
         return true;
     }
     match calls::answer(text, s, given, outputs) {
-        Some(reply) => reply::print(rt, n, line, reply, s, outputs),
+        Some(reply) => reply::print(rt, script::until(text, b' '), line, reply, s, outputs),
         None => {
             s.faults = calls::explain(rt, s.faults, k, text);
             reply::print_fault(rt, k, line, b"not a call")

@@ -32,16 +32,17 @@ pub enum Reply {
     Record,
 }
 
-// Prints what a call answered whose line of n bytes stands in the buffer, behind the line's name. Answers whether that went well.
+// Prints what a call answered behind the name of its line, which stands at the front of the buffer and has so many bytes. Answers whether that went well.
 pub fn print(
     rt: &HostRuntime,
-    n: usize,
+    name: usize,
     line: &mut [u8; ROOM],
     reply: Reply,
     s: &State,
     outputs: &Buffer<BYTES>,
-) -> bool {
-    let name = script::until(&line[..n.min(LINE)], b' ');
+) -> bool
+    requires { name ≤ LINE }
+{
     let end = put_reply(line, name, reply, s, outputs);
     write(rt, line, end)
 }

@@ -52,9 +52,9 @@ fn read_word(
     outputs: &mut Buffer<BYTES>,
 ) -> Option<Value> {
     match wanted {
-        Wanted::Number => number(word, 0..=u64::MAX),
-        Wanted::RollSize => number(word, 0..=ROLL as u64),
-        Wanted::Engine => number(word, 1..=ENGINES),
+        Wanted::Number => Some(Value::Number(script::read_number(word)?)),
+        Wanted::RollSize => Some(Value::Number(number(word, 0..=ROLL as u64)?)),
+        Wanted::Engine => Some(Value::Number(number(word, 1..=ENGINES)?)),
         Wanted::Last => last(word),
         Wanted::Size => output(word, outputs),
         Wanted::Lent => bytes(word, outputs),
@@ -64,12 +64,8 @@ fn read_word(
 }
 
 // A number of a range.
-fn number(word: &[u8], range: RangeInclusive<u64>) -> Option<Value> {
-    let x = script::read_number(word)?;
-    if !range.contains(&x) {
-        return None;
-    }
-    Some(Value::Number(x))
+fn number(word: &[u8], range: RangeInclusive<u64>) -> Option<u64> {
+    script::read_number(word).filter(|x| range.contains(x))
 }
 
 fn last(word: &[u8]) -> Option<Value> {
@@ -82,10 +78,7 @@ fn last(word: &[u8]) -> Option<Value> {
 
 // SIZE of an output.
 fn output(word: &[u8], outputs: &mut Buffer<BYTES>) -> Option<Value> {
-    let size = script::read_number(word)?;
-    if OUTPUT < size {
-        return None;
-    }
+    let size = number(word, 0..=OUTPUT)?;
     let (from, to) = outputs.add(size as usize, UNTOUCHED)?;
     Some(Value::Part(from, to))
 }
