@@ -154,7 +154,7 @@ fn is_kind(a: Asked, listed: [u8; RECEIPT], count: usize) -> bool {
     if !has_receipts(a) {
         return count == fingerprint::digest_bytes(a.n);
     }
-    let s = same::same(&listed, &listed);
+    let s = numbered::sameness(same::same(&listed, &listed));
     (count == RECEIPT) & (s.number == 0)
 }
 
@@ -210,7 +210,7 @@ fn compared(a: Asked, e: Entry, listed: [u8; RECEIPT], found: Option<Fingerprint
 #[tactic(auto, unfolding(receipts::specs::Receipt::receipt_bytes))]
 fn agree(are_receipts: bool, listed: [u8; RECEIPT], f: Fingerprint) -> bool {
     if are_receipts {
-        let s = same::same(&listed, &f.receipt());
+        let s = numbered::sameness(same::same(&listed, &f.receipt()));
         return s.same;
     }
     let shown = f.shown();

@@ -45,7 +45,7 @@ pub fn print_tally(rt: &HostRuntime, list: &[u8], count: usize) -> bool
         return false;
     }
     let end = RECEIPT * count;
-    let t = tally::tally(&list[0..end]);
+    let t = numbered::counts(tally::tally(&list[0..end]));
     print_counts(rt, t.firsts, t.reprints, t.blanks)
 }
 

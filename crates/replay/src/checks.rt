@@ -2,7 +2,6 @@
 use crate::reply::Reply;
 use crate::words::Words;
 use faults::Wanted;
-use receipts::{Counts, Sameness};
 use runs::Engine;
 
 #[derive(Clone, Copy, Debug, PartialEq, Eq)]
@@ -41,11 +40,11 @@ impl Line {
 pub fn answer(engine: Engine, line: Line, w: Words) -> Reply {
     match line {
         // same BYTES BYTES
-        Line::Same => truth(same::same(w.bytes(0), w.bytes(1))),
+        Line::Same => Reply::Truth(same::same(w.bytes(0), w.bytes(1))),
         // tally BYTES
-        Line::Tally => counts(tally::tally(w.bytes(0))),
+        Line::Tally => Reply::Tally(tally::tally(w.bytes(0))),
         // tagcheck W N KEY MESSAGE TAG
-        Line::TagCheck => truth(tag::check(
+        Line::TagCheck => Reply::Truth(tag::check(
             engine,
             w.number(0),
             w.number(1),
@@ -54,20 +53,4 @@ pub fn answer(engine: Engine, line: Line, w: Words) -> Reply {
             w.bytes(4),
         )),
     }
-}
-
-// A yes or a no, which only 0 comes with.
-fn truth(s: Sameness) -> Reply {
-    if s.number != 0 {
-        return Reply::Number(s.number);
-    }
-    Reply::Truth(s.same)
-}
-
-// Only 14 comes with the place of a malformed receipt.
-fn counts(t: Counts) -> Reply {
-    if t.number == 14 {
-        return Reply::Malformed(t);
-    }
-    Reply::Tally(t)
 }

@@ -12,14 +12,15 @@ mod reply;
 mod rolls;
 mod words;
 
+use answers::Refusal;
 use buffer::Buffer;
-use orders::Record;
+use orders::{Record, Step};
 use program::lines::Lines;
 use program::status::Status;
 use program::{arguments, files, lines, messages, status};
 use runs::Engine;
 use script::ROLL;
-use std::io::Result;
+use std::io::Error;
 
 // The most bytes of a line, without its newline.
 const LINE: usize = 262144;
@@ -39,6 +40,15 @@ struct State {
     roll: Buffer<ROLL>,
     // How many lines were no call.
     faults: u64,
+}
+
+impl State {
+    // Takes the record that a call gives, if it gives one, and answers how many blocks were run.
+    fn take(&mut self, answer: Result<Step, Refusal>) -> Result<u64, Refusal> {
+        let step = answer?;
+        self.record = step.next;
+        Ok(step.count)
+    }
 }
 
 fn main(rt: HostRuntime) {
@@ -78,7 +88,7 @@ fn file(rt: &HostRuntime, name: &[u8]) -> Status {
 
 // Replays the lines. The answer is whether all that they print could be written.
 // A proved loop has to end, and nothing says that the input does, so the lines are counted up to a number that no run comes to.
-fn replay(rt: &HostRuntime, mut lines: Lines) -> Result<bool> {
+fn replay(rt: &HostRuntime, mut lines: Lines) -> Result<bool, Error> {
     let mut line = room();
     let mut given = Buffer::new();
     let mut outputs = Buffer::new();
@@ -95,7 +105,7 @@ fn replay(rt: &HostRuntime, mut lines: Lines) -> Result<bool> {
 }
 
 // Reads a line into the front of its room, as `Lines` does.
-fn next(lines: &mut Lines, line: &mut [u8; ROOM]) -> Result<Option<usize>> {
+fn next(lines: &mut Lines, line: &mut [u8; ROOM]) -> Result<Option<usize>, Error> {
     lines.next(line, LINE)
 }
 

@@ -2,8 +2,9 @@
 use crate::State;
 use crate::reply::Reply;
 use crate::words::Words;
+use answers::Refusal;
 use faults::Wanted;
-use orders::{Outcome, Record};
+use orders::{Record, Step};
 use runs::Engine;
 
 #[derive(Clone, Copy, Debug, PartialEq, Eq)]
@@ -45,17 +46,16 @@ impl Line {
     }
 }
 
-// Answers a line. A new order has no count.
+// Answers a line. A new order has no count, and is all zeros where it is refused.
 pub fn answer(line: Line, w: Words, s: &mut State) -> Reply {
-    let o = call(s.engine, line, w, s.record);
-    s.record = o.next;
-    match line {
-        Line::Open | Line::TagStart => Reply::Number(o.number),
-        _ => Reply::Count(o.number, o.count),
+    if matches!(line, Line::Open | Line::TagStart) {
+        s.record = record::no_record();
+        return Reply::Number(s.take(call(s.engine, line, w, s.record)).map(|_| ()));
     }
+    Reply::Count(s.take(call(s.engine, line, w, s.record)))
 }
 
-fn call(engine: Engine, line: Line, w: Words, r: Record) -> Outcome {
+fn call(engine: Engine, line: Line, w: Words, r: Record) -> Result<Step, Refusal> {
     match line {
         // open W N
         Line::Open => record::open(engine, w.number(0), w.number(1)),

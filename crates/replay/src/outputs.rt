@@ -2,6 +2,7 @@
 use crate::State;
 use crate::reply::Reply;
 use crate::words::Words;
+use answers::Refusal;
 use faults::Wanted;
 use orders::Record;
 use runs::Engine;
@@ -58,7 +59,7 @@ pub fn answer(line: Line, w: Words, s: &State, output: &mut [u8]) -> Reply {
     Reply::Output(call(s.engine, line, w, s.record, output))
 }
 
-fn call(engine: Engine, line: Line, w: Words, r: Record, output: &mut [u8]) -> u32 {
+fn call(engine: Engine, line: Line, w: Words, r: Record, output: &mut [u8]) -> Result<(), Refusal> {
     match line {
         // close LAST E SIZE
         Line::Close => close::close(engine, r, w.byte(0), w.number(1), output),

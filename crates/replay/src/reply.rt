@@ -6,28 +6,27 @@ ghost use Rattle.decimal.specs.Number.{most_digits};
 
 use crate::buffer::Buffer;
 use crate::{BYTES, LINE, ROOM, State};
+use answers::Refusal;
 use limits::LONGEST_BLOCK;
 use orders::Record;
 use program::output;
-use receipts::Counts;
+use receipts::{Kinds, TallyRefusal};
 
 // What is printed behind the name of a line.
 #[derive(Clone, Copy)]
 pub enum Reply {
     // Nothing.
     Name,
-    // The number of the answer.
-    Number(u32),
+    // The number of the answer: 0, or the refusal's.
+    Number(Result<(), Refusal>),
     // The number, and how many blocks were run.
-    Count(u32, u64),
-    // A yes or a no, behind 0.
-    Truth(bool),
+    Count(Result<u64, Refusal>),
+    // The number, and behind 0 a yes or a no.
+    Truth(Result<bool, Refusal>),
     // The number, and the output.
-    Output(u32),
-    // What Tally counted.
-    Tally(Counts),
-    // The same with the place of a malformed receipt.
-    Malformed(Counts),
+    Output(Result<(), Refusal>),
+    // The number, the place of a malformed receipt if there is one, and what Tally counted.
+    Tally(Result<Kinds, TallyRefusal>),
     Roll,
     Record,
 }
@@ -79,23 +78,43 @@ fn put_reply(
 {
     match reply {
         Reply::Name => from,
-        Reply::Number(number) => put_numbers(line, from, &[number as u64]),
-        Reply::Count(number, count) => put_numbers(line, from, &[number as u64, count]),
-        Reply::Truth(true) => buffers::put(line, from, b" 0 yes"),
-        Reply::Truth(false) => buffers::put(line, from, b" 0 no"),
-        Reply::Output(number) => put_output(line, from, number, outputs.bytes()),
-        Reply::Tally(t) => put_numbers(
-            line,
-            from,
-            &[t.number as u64, t.firsts, t.reprints, t.blanks],
-        ),
-        Reply::Malformed(t) => put_numbers(
-            line,
-            from,
-            &[t.number as u64, t.place, t.firsts, t.reprints, t.blanks],
-        ),
+        Reply::Number(answer) => put_number(line, from, number_of(answer)),
+        Reply::Count(Ok(count)) => put_numbers(line, from, &[0, count]),
+        Reply::Count(Err(refusal)) => put_numbers(line, from, &[refusal as u64, 0]),
+        Reply::Truth(Ok(true)) => buffers::put(line, from, b" 0 yes"),
+        Reply::Truth(Ok(false)) => buffers::put(line, from, b" 0 no"),
+        Reply::Truth(Err(refusal)) => put_number(line, from, refusal as u64),
+        Reply::Output(answer) => put_output(line, from, number_of(answer), outputs.bytes()),
+        Reply::Tally(answer) => put_tally(line, from, answer),
         Reply::Roll => put_bytes(line, from, s.roll.bytes()),
         Reply::Record => put_record(line, from, s.record),
+    }
+}
+
+// The number of an answer.
+fn number_of(answer: Result<(), Refusal>) -> u64 {
+    match answer {
+        Ok(()) => 0,
+        Err(refusal) => refusal as u64,
+    }
+}
+
+fn put_tally(line: &mut [u8; ROOM], from: usize, answer: Result<Kinds, TallyRefusal>) -> usize
+    requires { from ≤ LINE }
+    ensures { result < ROOM }
+{
+    match answer {
+        Ok(k) => put_numbers(line, from, &[0, k.firsts, k.reprints, k.blanks]),
+        Err(TallyRefusal::NoReceipts) => put_numbers(
+            line,
+            from,
+            &[Refusal::NoReceipts as u64, 0, 0, 0],
+        ),
+        Err(TallyRefusal::Malformed { place }) => put_numbers(
+            line,
+            from,
+            &[Refusal::Malformed as u64, place, 0, 0, 0],
+        ),
     }
 }
 
@@ -121,11 +140,11 @@ fn put_number(line: &mut [u8], from: usize, x: u64) -> usize
 }
 
 // The number of an answer, and an output.
-fn put_output(line: &mut [u8], from: usize, number: u32, output: &[u8]) -> usize
+fn put_output(line: &mut [u8], from: usize, number: u64, output: &[u8]) -> usize
     requires { from + 1 + most_digits + 2 + 2 * length output.now ≤ length line.old }
     ensures { result ≤ from + 1 + most_digits + 2 + 2 * length output.now }
 {
-    let a = put_number(line, from, number as u64);
+    let a = put_number(line, from, number);
     put_bytes(line, a, output)
 }
 

@@ -2,8 +2,9 @@
 use crate::State;
 use crate::reply::Reply;
 use crate::words::Words;
+use answers::Refusal;
 use faults::Wanted;
-use orders::{Outcome, Record};
+use orders::{Record, Step};
 use runs::Engine;
 
 #[derive(Clone, Copy, Debug, PartialEq, Eq)]
@@ -69,12 +70,17 @@ pub fn answer(line: Line, w: Words, s: &mut State) -> Reply {
 
 // Makes a call on the record and the roll.
 fn changed(change: Change, w: Words, s: &mut State) -> Reply {
-    let o = call(s.engine, change, w, s.record, s.roll.bytes_mut());
-    s.record = o.next;
-    Reply::Count(o.number, o.count)
+    let answer = call(s.engine, change, w, s.record, s.roll.bytes_mut());
+    Reply::Count(s.take(answer))
 }
 
-fn call(engine: Engine, change: Change, w: Words, r: Record, roll: &mut [u8]) -> Outcome {
+fn call(
+    engine: Engine,
+    change: Change,
+    w: Words,
+    r: Record,
+    roll: &mut [u8],
+) -> Result<Step, Refusal> {
     match change {
         // appendroll BYTES
         Change::Append => append_roll::append_roll(engine, r, w.bytes(0), roll),
