@@ -1,296 +1,192 @@
-// Why a line of a script is no call, said on standard error for the one who wrote the script.
+// What a word of a script's line has to be, and why a line is no call, which is said on standard error for the one who wrote the script.
 #![tactic(auto)]
 
-ghost use Rattle.std.specs.Prelude.{◌≤◌, length};
-
 use script::{ENGINES, OUTPUT, ROLL};
+use std::fmt;
+use std::ops::RangeInclusive;
 
 // The most lines of which it is said.
 const MOST: u64 = 100;
 
-// Why a line is no call: the places of the sentences in `say_why`. Up to LENGTHS it is for the line, and from NO_NUMBER on for one of its words.
-const RETURN: u64 = 0;
-
-const SPACES: u64 = 1;
-
-const NAME: u64 = 2;
-
-const LENGTHS: u64 = 3;
-
-const NO_NUMBER: u64 = 4;
-
-const LARGE: u64 = 5;
-
-const LARGE_OUTPUT: u64 = 6;
-
-const LARGE_ROLL: u64 = 7;
-
-const UPPER: u64 = 8;
-
-const NO_DIGIT: u64 = 9;
-
-const HALF: u64 = 10;
-
-const NO_BYTE: u64 = 11;
-
-const NO_ENGINE: u64 = 12;
-
-// The line has not as many words as it takes.
-const COUNT: u64 = 13;
-
-// Nothing is wrong.
-const NONE: u64 = 14;
-
-// A fault, and the number of the word that has it, or of the words that the line should have.
-#[derive(Clone, Copy)]
-struct Fault {
-    why: u64,
-    word: usize,
+// What a word of a line has to be. The form of a call has one for each word behind the name.
+#[derive(Clone, Copy, Debug, PartialEq, Eq)]
+pub enum Wanted {
+    Number,
+    // A byte.
+    Last,
+    Bytes,
+    // SIZE of an output.
+    Size,
+    // BYTES that are lent as an output.
+    Lent,
+    // SIZE of a roll.
+    RollSize,
+    // BYTES of a roll.
+    RollBytes,
+    // The number of an engine.
+    Engine,
 }
 
-fn one_fault(why: u64, word: usize) -> Fault {
-    Fault {
-        why: why,
-        word: word,
-    }
+// Why a line is no call.
+#[derive(Clone, Copy, Debug, PartialEq, Eq)]
+enum Fault {
+    Return,
+    Spaces,
+    Name,
+    // It has not as many words as this, the name counted.
+    Count(usize),
+    // Word n, counted from 1, is not what it has to be.
+    Word(usize, WordFault),
+    Lengths,
 }
 
-// Says why line k is no call, unless that was said of many before, and answers of how many lines it has been asked. The line's first word names a call or
-// not, whose form has a letter for each word behind it.
-pub fn explain(
-    rt: &HostRuntime,
-    before: u64,
-    k: u64,
-    line: &[u8],
-    named: bool,
-    form: &[u8],
-) -> u64 {
+// Why a word is not what it has to be.
+#[derive(Clone, Copy, Debug, PartialEq, Eq)]
+enum WordFault {
+    NoNumber,
+    Large,
+    LargeOutput,
+    LargeRoll,
+    NoEngine,
+    Upper,
+    NoDigit,
+    Half,
+    NoByte,
+}
+
+// Says why line k is no call, unless that was said of many before, and answers of how many lines it has been asked. The form is that of the call that the
+// line's first word names, if it names one.
+pub fn explain(rt: &HostRuntime, before: u64, k: u64, line: &[u8], form: Option<&[Wanted]>) -> u64 {
     if before < MOST {
-        say(rt, k, of_line(line, named, form));
+        let fault = fault_of(line, form);
+        let _ = eprintln!(rt; "replay: line {k}: {fault}");
     }
     if before == MOST {
-        tell(
-            rt,
-            b"replay: there are more lines that are no call; why is said of the first 100\n",
+        let _ = eprintln!(rt;
+            "replay: there are more lines that are no call; why is said of the first {MOST}"
         );
     }
-    std::num::wrapping_add_u64(before, 1)
+    before.wrapping_add(1)
 }
 
-// The first fault of a line.
-fn of_line(line: &[u8], named: bool, form: &[u8]) -> Fault {
-    let why = of_shape(line, named, form.len());
-    if why != NONE {
-        return one_fault(why, std::num::wrapping_add_usize(form.len(), 1));
-    }
-    of_words(line, form)
-}
-
-// What is wrong with the shape of a line whose call takes so many words.
-fn of_shape(line: &[u8], named: bool, size: usize) -> u64 {
-    if ends_in_return(line) {
-        return RETURN;
-    }
-    if has_stray_space(line) {
-        return SPACES;
-    }
-    if !named {
-        return NAME;
-    }
-    if bytes_from_to(line, b' ', b' ') != size {
-        return COUNT;
-    }
-    NONE
-}
-
-fn ends_in_return(line: &[u8]) -> bool {
-    let n = line.len();
-    if n == 0 {
-        return false;
-    }
-    line[n - 1] == b'\r'
-}
-
-// Whether a space stands at the start, at the end, or behind another.
-fn has_stray_space(line: &[u8]) -> bool {
-    let mut stray = false;
-    let mut behind = true;
-    let mut i: usize = 0;
-    while i < line.len() {
-        let is_space = line[i] == b' ';
-        stray = stray | (is_space & behind);
-        behind = is_space;
-        i += 1;
-    }
-    stray | behind
-}
-
-// How many bytes are one of those from low to high.
-fn bytes_from_to(s: &[u8], low: u8, high: u8) -> usize {
-    let mut n: usize = 0;
-    let mut i: usize = 0;
-    while i < s.len() {
-        n = std::num::wrapping_add_usize(n, ((low <= s[i]) & (s[i] <= high)) as usize);
-        i += 1;
-    }
-    n
-}
-
-// The first word that is not what its letter asks for. If each is, the arrays of a record do not have their lengths.
-fn of_words(line: &[u8], form: &[u8]) -> Fault {
-    let mut i: usize = 0;
-    while i < form.len() {
-        let word = std::num::wrapping_add_usize(i, 1);
-        let why = of_word(form[i], script::word(line, word));
-        if why != NONE {
-            return one_fault(why, std::num::wrapping_add_usize(word, 1));
-        }
-        i += 1;
-    }
-    one_fault(LENGTHS, 0)
-}
-
-// What is wrong with a word that a form has a letter for.
-fn of_word(letter: u8, word: &[u8]) -> u64 {
-    match letter {
-        b'n' => of_number(word, 0, u64::MAX, LARGE),
-        b's' => of_number(word, 0, OUTPUT, LARGE_OUTPUT),
-        b'r' => of_number(word, 0, ROLL as u64, LARGE_ROLL),
-        b'e' => of_number(word, 1, ENGINES, NO_ENGINE),
-        b'l' => of_last(word),
-        b'c' => of_roll(word),
-        _ => of_bytes(word),
+// The first fault of a line. If it has no other, the arrays of a record do not have their lengths.
+fn fault_of(line: &[u8], form: Option<&[Wanted]>) -> Fault {
+    match check_line(line, form) {
+        Err(fault) => fault,
+        Ok(()) => Fault::Lengths,
     }
 }
 
-// A number from low to high; why is what is wrong with any other.
-fn of_number(word: &[u8], low: u64, high: u64, why: u64) -> u64 {
-    if bytes_from_to(word, b'0', b'9') != word.len() {
-        return NO_NUMBER;
+fn check_line(line: &[u8], form: Option<&[Wanted]>) -> Result<(), Fault> {
+    if line.last() == Some(&b'\r') {
+        return Err(Fault::Return);
     }
-    let Some(v) = script::read_number(word) else {
-        return LARGE;
-    };
-    if (v < low) | (high < v) {
-        return why;
+    if line.split(|c| *c == b' ').any(|word| word.is_empty()) {
+        return Err(Fault::Spaces);
     }
-    NONE
+    let form = form.ok_or(Fault::Name)?;
+    let words = form.len().wrapping_add(1);
+    if line.split(|c| *c == b' ').count() != words {
+        return Err(Fault::Count(words));
+    }
+    check_words(line, form)
+}
+
+// Whether each word behind the name is what it has to be.
+fn check_words(line: &[u8], form: &[Wanted]) -> Result<(), Fault> {
+    let words = line.split(|c| *c == b' ').skip(1);
+    for (n, (word, wanted)) in (2..usize::MAX).zip(words.zip(form)) {
+        check_word(word, *wanted).map_err(|why| Fault::Word(n, why))?;
+    }
+    Ok(())
+}
+
+fn check_word(word: &[u8], wanted: Wanted) -> Result<(), WordFault> {
+    match wanted {
+        Wanted::Number => check_number(word, 0..=u64::MAX, WordFault::Large),
+        Wanted::Size => check_number(word, 0..=OUTPUT, WordFault::LargeOutput),
+        Wanted::RollSize => check_number(word, 0..=ROLL as u64, WordFault::LargeRoll),
+        Wanted::Engine => check_number(word, 1..=ENGINES, WordFault::NoEngine),
+        Wanted::Last => check_last(word),
+        Wanted::RollBytes => check_roll(word),
+        Wanted::Bytes | Wanted::Lent => check_bytes(word),
+    }
+}
+
+// A number of a range; why is what is wrong with any other.
+fn check_number(word: &[u8], range: RangeInclusive<u64>, why: WordFault) -> Result<(), WordFault> {
+    if !word.iter().all(|c| c.is_ascii_digit()) {
+        return Err(WordFault::NoNumber);
+    }
+    let x = script::read_number(word).ok_or(WordFault::Large)?;
+    if !range.contains(&x) {
+        return Err(why);
+    }
+    Ok(())
 }
 
 // A byte.
-fn of_last(word: &[u8]) -> u64 {
-    let why = of_bytes(word);
-    if why != NONE {
-        return why;
-    }
+fn check_last(word: &[u8]) -> Result<(), WordFault> {
+    check_bytes(word)?;
     if word.len() != 2 {
-        return NO_BYTE;
+        return Err(WordFault::NoByte);
     }
-    NONE
+    Ok(())
 }
 
 // The bytes of a roll.
-fn of_roll(word: &[u8]) -> u64 {
+fn check_roll(word: &[u8]) -> Result<(), WordFault> {
     if 2 * ROLL < word.len() {
-        return LARGE_ROLL;
+        return Err(WordFault::LargeRoll);
     }
-    of_bytes(word)
+    check_bytes(word)
 }
 
-fn of_bytes(word: &[u8]) -> u64 {
-    if hexadecimal::is_dash(word) {
-        return NONE;
+fn check_bytes(word: &[u8]) -> Result<(), WordFault> {
+    if hexadecimal::is_dash(word) || hexadecimal::is_hex_bytes(word) {
+        return Ok(());
     }
-    if hexadecimal::is_hex_bytes(word) {
-        return NONE;
-    }
-    if bytes_from_to(word, b'A', b'F') != 0 {
-        return UPPER;
+    if word.iter().any(|c| (b'A'..=b'F').contains(c)) {
+        return Err(WordFault::Upper);
     }
     if hexadecimal::all_hex(word) {
-        return HALF;
+        return Err(WordFault::Half);
     }
-    NO_DIGIT
+    Err(WordFault::NoDigit)
 }
 
-// Says why line k is no call.
-fn say(rt: &HostRuntime, k: u64, f: Fault) {
-    tell(rt, b"replay: line ");
-    tell_number(rt, k);
-    tell(rt, b": ");
-    if f.why == COUNT {
-        say_count(rt, f.word);
-        return;
+impl fmt::Display for Fault {
+    fn fmt<W: fmt::Write>(&self, f: &mut fmt::Formatter<W>) -> fmt::Result {
+        match self {
+            Fault::Return => f.write_str("it ends in a carriage return"),
+            Fault::Spaces => f.write_str(
+                "there is a space too many: words have one between two of them, and no other",
+            ),
+            Fault::Name => f.write_str("its first word is no call"),
+            Fault::Count(1) => f.write_str("a line of this call is one word"),
+            Fault::Count(n) => write!(f, "a line of this call has {n} words"),
+            Fault::Word(n, why) => write!(f, "word {n}: {why}"),
+            Fault::Lengths => {
+                f.write_str("CHAIN and SECOND have 256 digits each, HELD and BACK 512")
+            }
+        }
     }
-    if NO_NUMBER <= f.why {
-        say_word(rt, f.word);
+}
+
+impl fmt::Display for WordFault {
+    fn fmt<W: fmt::Write>(&self, f: &mut fmt::Formatter<W>) -> fmt::Result {
+        f.write_str(match self {
+            WordFault::NoNumber => "a number has decimal digits only",
+            WordFault::Large => "the number is above 18446744073709551615",
+            WordFault::LargeOutput => "an output has 4096 bytes at most",
+            WordFault::LargeRoll => "a roll has 65536 bytes at most",
+            WordFault::NoEngine => "an engine is 1 or 2",
+            WordFault::Upper => "there is an upper-case digit: hexadecimal digits are lower-case",
+            WordFault::NoDigit => {
+                "bytes have hexadecimal digits only, and are a dash if there are none"
+            }
+            WordFault::Half => "a byte has two digits, and here is one too few",
+            WordFault::NoByte => "LAST is one byte",
+        })
     }
-    say_why(rt, f.why);
-}
-
-fn say_count(rt: &HostRuntime, words: usize) {
-    if words == 1 {
-        tell(rt, b"a line of this call is one word\n");
-        return;
-    }
-    tell(rt, b"a line of this call has ");
-    tell_number(rt, words as u64);
-    tell(rt, b" words\n");
-}
-
-fn say_word(rt: &HostRuntime, word: usize) {
-    tell(rt, b"word ");
-    tell_number(rt, word as u64);
-    tell(rt, b": ");
-}
-
-fn say_why(rt: &HostRuntime, why: u64) {
-    let sentences = b"it ends in a carriage return\n\
-          there is a space too many: words have one between two of them, and no other\n\
-          its first word is no call\n\
-          CHAIN and SECOND have 256 digits each, HELD and BACK 512\n\
-          a number has decimal digits only\n\
-          the number is above 18446744073709551615\n\
-          an output has 4096 bytes at most\n\
-          a roll has 65536 bytes at most\n\
-          there is an upper-case digit: hexadecimal digits are lower-case\n\
-          bytes have hexadecimal digits only, and are a dash if there are none\n\
-          a byte has two digits, and here is one too few\n\
-          LAST is one byte\n\
-          an engine is 1 or 2\n";
-    tell(rt, line_of(sentences, why));
-    tell(rt, b"\n");
-}
-
-// Line i of a text, counted from 0; an empty one where it has fewer.
-fn line_of(text: &[u8], i: u64) -> &[u8] {
-    let mut from: usize = 0;
-    let mut left = i;
-    while left > 0 {
-        from = next_line(text, from);
-        left -= 1;
-    }
-    let rest = &text[from..];
-    let n = script::until(rest, b'\n');
-    &rest[..n]
-}
-
-// Where the line after the one at a place begins.
-fn next_line(text: &[u8], from: usize) -> usize
-    requires { from ≤ length text.now }
-    ensures { result ≤ length text.now }
-{
-    let end = from + script::until(&text[from..], b'\n');
-    if end < text.len() {
-        return end + 1;
-    }
-    end
-}
-
-fn tell(rt: &HostRuntime, text: &[u8]) {
-    let _ = Print::write_all(&rt.stderr(), text);
-}
-
-fn tell_number(rt: &HostRuntime, x: u64) {
-    let _ = rt.eprint(x);
 }

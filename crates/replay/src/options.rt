@@ -1,10 +1,10 @@
 // What is asked for: a script's file, help or the version.
 use program::arguments;
-use program::arguments::{Argument, Named, Wrong};
+use program::arguments::{Argument, Named};
 use program::status::Status;
 use std::convert::Infallible;
 
-// The options.
+// The options, of which none takes a value.
 #[derive(Clone, Copy, Debug, PartialEq, Eq)]
 enum Flag {
     Help,
@@ -21,67 +21,34 @@ impl Named for Flag {
     }
 }
 
-// What an argument is. No option takes a value.
-type Is = Argument<Flag, Infallible>;
-
-#[derive(Clone, Copy)]
-pub struct Asked {
-    // The argument that names the script's file, 0 if it is standard input.
-    pub file: usize,
-    // Done; or else nothing is done, since an argument is wrong, or help or the version is asked for.
-    pub status: Status,
-}
-
-pub fn read(rt: &HostRuntime) -> Asked {
-    let mut a = nothing();
-    for t in arguments::all(rt) {
-        a = with(rt, a, t);
+// The argument that names the script's file, if one does; or the status to end with, since an argument is wrong, or help or the version is asked for.
+pub fn read(rt: &HostRuntime) -> Result<Option<usize>, Status> {
+    let mut file = None;
+    for argument in arguments::all::<Flag, Infallible>(rt) {
+        match argument {
+            Argument::Flag(Flag::Help) => return Err(Status::Help),
+            Argument::Flag(Flag::Version) => return Err(Status::Version),
+            Argument::File(i) => file = Some(only(rt, file, i)?),
+            Argument::Wrong(i, why) => {
+                arguments::say_wrong(rt, b"replay", i, why);
+                return Err(Status::Misused);
+            }
+            Argument::Valued(..) | Argument::Value | Argument::End => {}
+        }
     }
-    a
+    Ok(file)
 }
 
-fn nothing() -> Asked {
-    Asked {
-        file: 0,
-        status: Status::Done,
+// Argument i, which names the script's file, if none before it does.
+fn only(rt: &HostRuntime, before: Option<usize>, i: usize) -> Result<usize, Status> {
+    if before.is_none() {
+        return Ok(i);
     }
-}
-
-// What is asked for with argument i. Of several faults the first is said.
-fn with(rt: &HostRuntime, mut a: Asked, t: Is) -> Asked {
-    if a.status != Status::Done {
-        return a;
-    }
-    match t {
-        Argument::Flag(Flag::Help) => a.status = Status::Help,
-        Argument::Flag(Flag::Version) => a.status = Status::Version,
-        Argument::File(i) => a = with_file(rt, a, i),
-        Argument::Wrong(i, why) => a = no_option(rt, a, i, why),
-        _ => {}
-    }
-    a
-}
-
-fn with_file(rt: &HostRuntime, mut a: Asked, i: usize) -> Asked {
-    if a.file != 0 {
-        arguments::say(
-            rt,
-            b"replay",
-            i,
-            b"one script is replayed, and this is a second",
-        );
-        return misused(a);
-    }
-    a.file = i;
-    a
-}
-
-fn no_option(rt: &HostRuntime, a: Asked, i: usize, why: Wrong) -> Asked {
-    arguments::say_wrong(rt, b"replay", i, why);
-    misused(a)
-}
-
-fn misused(mut a: Asked) -> Asked {
-    a.status = Status::Misused;
-    a
+    arguments::say(
+        rt,
+        b"replay",
+        i,
+        b"one script is replayed, and this is a second",
+    );
+    Err(Status::Misused)
 }

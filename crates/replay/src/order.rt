@@ -1,69 +1,77 @@
 // The lines whose call returns the record of an order, but for those with the roll.
+use crate::State;
 use crate::reply::Reply;
-use crate::words::WORDS;
-use crate::{State, reply, words};
-use orders::{Outcome, Record};
+use crate::words::Words;
+use answers::Refusal;
+use faults::Wanted;
+use orders::{Record, Step};
 use runs::Engine;
 
-// The first digit of the kinds of these lines in the table of calls.rt, and the kinds.
-pub const FILE: u64 = 1;
+#[derive(Clone, Copy, Debug, PartialEq, Eq)]
+pub enum Line {
+    Open,
+    Append,
+    Rewind,
+    Begin,
+    HandBack,
+    End,
+    Abandon,
+    TagStart,
+}
 
-const OPEN: u64 = 10;
+impl Line {
+    pub fn of_name(name: &[u8]) -> Option<Line> {
+        match name {
+            b"open" => Some(Line::Open),
+            b"append" => Some(Line::Append),
+            b"rewind" => Some(Line::Rewind),
+            b"begin" => Some(Line::Begin),
+            b"handback" => Some(Line::HandBack),
+            b"end" => Some(Line::End),
+            b"abandon" => Some(Line::Abandon),
+            b"tagstart" => Some(Line::TagStart),
+            _ => None,
+        }
+    }
 
-const APPEND: u64 = 11;
-
-const REWIND: u64 = 12;
-
-const BEGIN: u64 = 13;
-
-const HANDBACK: u64 = 14;
-
-const END: u64 = 15;
-
-const ABANDON: u64 = 16;
-
-const TAGSTART: u64 = 17;
-
-// Answers a line of a kind. A new order has no count.
-pub fn answer(kind: u64, v: [u64; WORDS], s: State, given: &[u8]) -> Reply {
-    let o = call(runs::engine_of(s.engine), kind, v, s.record, given);
-    match kind {
-        OPEN | TAGSTART => reply::number(o.number, o.next),
-        _ => reply::count(o.number, o.count, o.next),
+    pub fn form(self) -> &'static [Wanted] {
+        match self {
+            Line::Open => &[Wanted::Number, Wanted::Number],
+            Line::Append | Line::Begin | Line::HandBack => &[Wanted::Bytes],
+            Line::Rewind => &[Wanted::Number, Wanted::Bytes],
+            Line::End => &[Wanted::Number],
+            Line::Abandon => &[],
+            Line::TagStart => &[Wanted::Number, Wanted::Number, Wanted::Bytes],
+        }
     }
 }
 
-fn call(engine: Engine, kind: u64, v: [u64; WORDS], r: Record, given: &[u8]) -> Outcome {
-    match kind {
+// Answers a line. A new order has no count, and is all zeros where it is refused.
+pub fn answer(line: Line, w: Words, s: &mut State) -> Reply {
+    if matches!(line, Line::Open | Line::TagStart) {
+        s.record = record::no_record();
+        return Reply::Number(s.take(call(s.engine, line, w, s.record)).map(|_| ()));
+    }
+    Reply::Count(s.take(call(s.engine, line, w, s.record)))
+}
+
+fn call(engine: Engine, line: Line, w: Words, r: Record) -> Result<Step, Refusal> {
+    match line {
         // open W N
-        OPEN => numbered::outcome(record::no_record(), record::open(engine, v[0], v[1])),
+        Line::Open => record::open(engine, w.number(0), w.number(1)),
         // append BYTES
-        APPEND => numbered::outcome(r, append::append(engine, r, words::part(given, 0, v[0]))),
+        Line::Append => append::append(engine, r, w.bytes(0)),
         // rewind KEEP BYTES
-        REWIND => numbered::outcome(
-            r,
-            rewind::rewind(engine, r, v[0], words::part(given, 0, v[1])),
-        ),
+        Line::Rewind => rewind::rewind(engine, r, w.number(0), w.bytes(1)),
         // begin BYTES
-        BEGIN => numbered::outcome(r, split_rewind::begin(r, words::part(given, 0, v[0]))),
+        Line::Begin => split_rewind::begin(r, w.bytes(0)),
         // handback BYTES
-        HANDBACK => numbered::outcome(
-            r,
-            split_rewind::hand_back(engine, r, words::part(given, 0, v[0])),
-        ),
+        Line::HandBack => split_rewind::hand_back(engine, r, w.bytes(0)),
         // end KEEP
-        END => numbered::outcome(r, split_rewind::end(engine, r, v[0])),
+        Line::End => split_rewind::end(engine, r, w.number(0)),
         // abandon
-        ABANDON => numbered::outcome(r, split_rewind::abandon(r)),
+        Line::Abandon => split_rewind::abandon(r),
         // tagstart W N KEY
-        TAGSTART => numbered::outcome(
-            record::no_record(),
-            tag::start(engine, v[0], v[1], words::part(given, 0, v[2])),
-        ),
-        _ => Outcome {
-            number: 0,
-            count: 0,
-            next: r,
-        },
+        Line::TagStart => tag::start(engine, w.number(0), w.number(1), w.bytes(2)),
     }
 }

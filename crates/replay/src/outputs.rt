@@ -1,77 +1,92 @@
 // The lines whose call writes an output.
+use crate::State;
 use crate::reply::Reply;
-use crate::words::WORDS;
-use crate::{State, reply, words};
+use crate::words::Words;
+use answers::Refusal;
+use faults::Wanted;
 use orders::Record;
 use runs::Engine;
 
-// The first digit of the kinds of these lines in the table of calls.rt, and the kinds.
-pub const FILE: u64 = 2;
-
-const CLOSE: u64 = 20;
-
-const WHOLE: u64 = 21;
-
-const FORWARD: u64 = 22;
-
-const BACKWARD: u64 = 23;
-
-const TAG: u64 = 24;
-
-const TAGFINISH: u64 = 25;
-
-// Answers a line of a kind. The call is lent its output alone, cut to its size.
-pub fn answer(kind: u64, v: [u64; WORDS], s: State, given: &[u8], output: &mut [u8]) -> Reply {
-    let number = call(runs::engine_of(s.engine), kind, v, s.record, given, output);
-    reply::output(number, output.len() as u64, s.record)
+#[derive(Clone, Copy, Debug, PartialEq, Eq)]
+pub enum Line {
+    Close,
+    Whole,
+    Forward,
+    Backward,
+    Tag,
+    TagFinish,
 }
 
-fn call(
-    engine: Engine,
-    kind: u64,
-    v: [u64; WORDS],
-    r: Record,
-    given: &[u8],
-    output: &mut [u8],
-) -> u32 {
-    match kind {
+impl Line {
+    pub fn of_name(name: &[u8]) -> Option<Line> {
+        match name {
+            b"close" => Some(Line::Close),
+            b"whole" => Some(Line::Whole),
+            b"forward" => Some(Line::Forward),
+            b"backward" => Some(Line::Backward),
+            b"tag" => Some(Line::Tag),
+            b"tagfinish" => Some(Line::TagFinish),
+            _ => None,
+        }
+    }
+
+    pub fn form(self) -> &'static [Wanted] {
+        match self {
+            Line::Close => &[Wanted::Last, Wanted::Number, Wanted::Size],
+            Line::Whole => &[
+                Wanted::Number,
+                Wanted::Number,
+                Wanted::Bytes,
+                Wanted::Last,
+                Wanted::Number,
+                Wanted::Size,
+            ],
+            Line::Forward | Line::Backward => &[Wanted::Number, Wanted::Lent, Wanted::Bytes],
+            Line::Tag => &[
+                Wanted::Number,
+                Wanted::Number,
+                Wanted::Bytes,
+                Wanted::Bytes,
+                Wanted::Size,
+            ],
+            Line::TagFinish => &[Wanted::Bytes, Wanted::Size],
+        }
+    }
+}
+
+// Answers a line. The call is lent its output alone, cut to its size.
+pub fn answer(line: Line, w: Words, s: &State, output: &mut [u8]) -> Reply {
+    Reply::Output(call(s.engine, line, w, s.record, output))
+}
+
+fn call(engine: Engine, line: Line, w: Words, r: Record, output: &mut [u8]) -> Result<(), Refusal> {
+    match line {
         // close LAST E SIZE
-        CLOSE => numbered::answer(close::close(engine, r, (v[0] % 256) as u8, v[1], output)),
+        Line::Close => close::close(engine, r, w.byte(0), w.number(1), output),
         // whole W N BYTES LAST E SIZE
-        WHOLE => numbered::answer(whole::whole(
+        Line::Whole => whole::whole(
             engine,
-            v[0],
-            v[1],
-            words::part(given, 0, v[2]),
-            (v[3] % 256) as u8,
-            v[4],
+            w.number(0),
+            w.number(1),
+            w.bytes(2),
+            w.byte(3),
+            w.number(4),
             output,
-        )),
+        ),
         // forward W BYTES BYTES
-        FORWARD => numbered::answer(block_call::forward(
-            engine,
-            v[0],
-            output,
-            words::part(given, 0, v[2]),
-        )),
+        Line::Forward => block_call::forward(engine, w.number(0), output, w.bytes(2)),
         // backward W BYTES BYTES
-        BACKWARD => numbered::answer(block_call::backward(
-            engine,
-            v[0],
-            output,
-            words::part(given, 0, v[2]),
-        )),
+        Line::Backward => block_call::backward(engine, w.number(0), output, w.bytes(2)),
         // tag W N KEY MESSAGE SIZE
-        TAG => numbered::answer(tag::tag(
+        Line::Tag => tag::tag(
             engine,
-            v[0],
-            v[1],
-            words::part(given, 0, v[2]),
-            words::part(given, v[2], v[3]),
+            w.number(0),
+            w.number(1),
+            w.bytes(2),
+            w.bytes(3),
             output,
-        )),
+        ),
         // tagfinish KEY SIZE
-        TAGFINISH => numbered::answer(tag::finish(engine, r, words::part(given, 0, v[0]), output)),
-        _ => 0,
+        Line::TagFinish => tag::finish(engine, r, w.bytes(0), output),
     }
 }

@@ -1,101 +1,99 @@
 // The lines that show and set what is kept: the record, and the engine.
+use crate::State;
 use crate::reply::Reply;
-use crate::words::WORDS;
-use crate::{State, reply, words};
+use crate::words::Words;
+use faults::Wanted;
 use limits::LONGEST_BLOCK;
 use orders::{Record, Split};
 use script::WIDE_CHAIN;
 
-// The first digit of the kinds of these lines in the table of calls.rt, and the kinds.
-pub const FILE: u64 = 5;
-
-const RECORD: u64 = 50;
-
-const SET: u64 = 51;
-
-const ENGINE: u64 = 52;
-
-// The state in which a line of a kind is answered: of engine it already has the engine that the line says.
-pub fn with_engine(kind: u64, v: [u64; WORDS], mut s: State) -> State {
-    if kind == ENGINE {
-        s.engine = v[0];
-    }
-    s
+#[derive(Clone, Copy, Debug, PartialEq, Eq)]
+pub enum Line {
+    Record,
+    Set,
+    Engine,
 }
 
-// Answers a line of a kind.
-pub fn answer(kind: u64, v: [u64; WORDS], s: State, given: &[u8]) -> Reply {
-    match kind {
-        RECORD => reply::record(s.record),
-        SET => set(v, s, given),
+impl Line {
+    pub fn of_name(name: &[u8]) -> Option<Line> {
+        match name {
+            b"record" => Some(Line::Record),
+            b"set" => Some(Line::Set),
+            b"engine" => Some(Line::Engine),
+            _ => None,
+        }
+    }
+
+    pub fn form(self) -> &'static [Wanted] {
+        match self {
+            Line::Record => &[],
+            Line::Set => &[
+                Wanted::Number,
+                Wanted::Number,
+                Wanted::Number,
+                Wanted::Bytes,
+                Wanted::Bytes,
+                Wanted::Number,
+                Wanted::Bytes,
+                Wanted::Bytes,
+                Wanted::Number,
+            ],
+            Line::Engine => &[Wanted::Engine],
+        }
+    }
+}
+
+// Answers a line; nothing where the arrays of a record do not have their lengths.
+pub fn answer(line: Line, w: Words, s: &mut State) -> Option<Reply> {
+    match line {
+        // record
+        Line::Record => return Some(Reply::Record),
+        // set W N TOTAL CHAIN HELD MARK SECOND BACK BLOCKS
+        Line::Set => s.record = record_of(w)?,
         // engine K
-        ENGINE => reply::plain(reply::NAME, s.record),
-        _ => reply::plain(reply::NOT_A_CALL, s.record),
+        Line::Engine => s.engine = runs::engine_of(w.number(0)),
     }
+    Some(Reply::Name)
 }
 
-// set W N TOTAL CHAIN HELD MARK SECOND BACK BLOCKS
-fn set(v: [u64; WORDS], s: State, given: &[u8]) -> Reply {
-    let one = arrays_of(words::part(given, 0, v[3]), words::part(given, v[3], v[4]));
-    let two = arrays_of(
-        words::part(given, v[4], v[6]),
-        words::part(given, v[6], v[7]),
-    );
-    if !(one.are & two.are) {
-        return reply::plain(reply::NOT_A_CALL, s.record);
-    }
-    let chain = one.chain;
-    let held = one.bytes;
-    let second = two.chain;
-    let back = two.bytes;
-    let split = Split {
-        mark: v[5],
-        second: second,
-        back: back,
-        blocks: v[8],
-    };
-    reply::plain(
-        reply::NAME,
-        Record {
-            w: v[0],
-            n: v[1],
-            total: v[2],
-            chain: chain,
-            held: held,
-            split: split,
-        },
-    )
+// The record that a line says, if its arrays have their lengths.
+fn record_of(w: Words) -> Option<Record> {
+    let chain = chain_of(w.bytes(3))?;
+    let held = block_of(w.bytes(4))?;
+    let split = split_of(w)?;
+    Some(Record {
+        w: w.number(0),
+        n: w.number(1),
+        total: w.number(2),
+        chain,
+        held,
+        split,
+    })
 }
 
-// The words of a chain and the places for a block's bytes, if they are as long as that.
-#[derive(Clone, Copy)]
-struct Arrays {
-    are: bool,
-    chain: [u64; 16],
-    bytes: [u8; LONGEST_BLOCK],
+fn split_of(w: Words) -> Option<Split> {
+    let second = chain_of(w.bytes(6))?;
+    let back = block_of(w.bytes(7))?;
+    Some(Split {
+        mark: w.number(5),
+        second,
+        back,
+        blocks: w.number(8),
+    })
 }
 
-fn arrays_of(chain: &[u8], bytes: &[u8]) -> Arrays {
-    if chain.len() != WIDE_CHAIN {
-        return no_arrays();
+// The words of a chain, if the bytes are as many.
+fn chain_of(bytes: &[u8]) -> Option<[u64; 16]> {
+    if bytes.len() != WIDE_CHAIN {
+        return None;
     }
+    Some(script::chain_of(bytes))
+}
+
+// The places for a block's bytes, if the bytes are as many.
+fn block_of(bytes: &[u8]) -> Option<[u8; LONGEST_BLOCK]> {
     if bytes.len() != LONGEST_BLOCK {
-        return no_arrays();
+        return None;
     }
-    let c = script::chain_of(chain);
-    let b = runs::zero_filled(bytes);
-    Arrays {
-        are: true,
-        chain: c,
-        bytes: b,
-    }
-}
-
-fn no_arrays() -> Arrays {
-    let b = runs::zero_bytes();
-    Arrays {
-        are: false,
-        chain: [0; 16],
-        bytes: b,
-    }
+    Some(runs::zero_filled(bytes))
 }
