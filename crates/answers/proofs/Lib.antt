@@ -2,3 +2,4 @@
 pub mod Tests
 pub mod First
 pub mod Output
+pub mod Numbers

@@ -7,6 +7,12 @@ use Prim.Native.Nat.{ℕ}
 use lib.Dec.{eqb}
 use lib.ListN.{drop}
 use borrow.Author.Tests.{eq-eqb, ne_eqb, eqb-true}
+use Rattle.std.specs.Prelude.{Result}
+use Rattle.std.specs.Result.{IsErrAnd}
+use Rattle.std.proofs.lemmas.Result.{err_from_is_err_and}
+use Rattle.answers.specs.declared.Refusal.{Refusal}
+use Rattle.answers.specs.Refusal.{number, answer_of}
+use Rattle.answers.proofs.Numbers.{some_number}
 use Rattle.answers.specs.Output.{written}
 
 module _ (answer size : ℕ) (front output : List ℕ) where
@@ -17,6 +23,13 @@ module _ (answer size : ℕ) (front output : List ℕ) where
   pub refused-output : {a : ℕ} → a ≡ answer → (a ≡ 0 → ⊥) → (a ≡ answer) × (output ≡ written answer size front output)
   unfolding written
   refused-output is other = (is, rw (ne_eqb answer 0 (λ e. other (is ∙ e))))
+
+  -- where a test refused, and `?` passed its refusal on
+  pub refused-by : (x : Result Unit Refusal) (e : Refusal) → number e ≡ answer → IsErrAnd x (λ y. y ≡ e) → (answer_of x ≡ answer) × (output ≡ written answer size front output)
+  refused-by x e is passed =
+      let p = err_from_is_err_and x passed in
+      let a : answer_of x ≡ number e = ap answer_of p.1 ∙ ap number p.2 in
+      refused-output (a ∙ is) (λ z. some_number e (sym a ∙ z))
 
   pub written-output : {f d : List ℕ} → answer ≡ 0 → f ≡ front → d ≡ f ++ drop size output → (0 ≡ answer) × (d ≡ written answer size front output)
   written-output is same stored = (sym is, stored ∙ ap (λ (f : List ℕ). f ++ drop size output) same ∙ sym (written_is is))

@@ -1,2 +1,3 @@
 pub mod First
 pub mod Output
+pub mod Refusal

@@ -8,6 +8,7 @@ use native.Mathlib.Nat.{add-zero, add_assoc, mul_assoc, mul-mod_left, mul-div_ca
 use native.Mathlib.Omega.{arith}
 use lib.ListN.{length, take, drop, length-append, length-drop, take-append-drop}
 use lib.Seq.{length-take-le, take-add, take_all, take-length}
+use Rattle.std.specs.Prelude.{Some}
 use Rattle.lsh.specs.WordSize.{WordSize, size_of, block_bytes}
 use Rattle.lsh.specs.Block.{Chain, forwards}
 use Rattle.lsh.specs.Padding.{blocks_of, rest_of}
@@ -86,7 +87,7 @@ module _ (r : Record) (piece : List ℕ) where
     pub stage : Stage start from at now
     pub reached : chain ≡ (so_far at).chain
     pub blocks : count ≡ (r.total + at) / B - r.total / B
-    pub traversal : known ≡ traversal_of Z now
+    pub traversal : Some known ≡ traversal_of Z now
     pub place : r.total + at ≡ have at * Q
 
   module _ {roll : List ℕ} (e : Entry roll) where
@@ -224,7 +225,7 @@ module _ (r : Record) (piece : List ℕ) where
 
         pub first-parted : {chain : List ℕ} {count : ℕ} {known : Traversal} {now : List ℕ}
             → chain ≡ (so_far first).chain → count ≡ (append_accepted r (take first piece)).count
-            → now ≡ inserted-at first roll → known ≡ traversal_of Z now
+            → now ≡ inserted-at first roll → Some known ≡ traversal_of Z now
             → Parted first now chain count known first now
         unfolding append_accepted
         first-parted {chain} {count} {known} {now} ec en el ek =
@@ -269,7 +270,7 @@ module _ (r : Record) (piece : List ℕ) where
               → chain' ≡ forwards Z (blocks_of Z given) chain
               → count' ≡ count + length given / B
               → ((k : ℕ) → now' ≡ inserted Z (record { number = k; chain = chain' }) now)
-              → known' ≡ traversal_of Z now'
+              → Some known' ≡ traversal_of Z now'
               → Parted start from chain' count' known' end now'
           parted-more {end} {chain'} {count'} {known'} {now'} ee ec en el ek =
               let there = ec ∙ chain-is-next in

@@ -1,23 +1,26 @@
 // Append with a roll: a piece is added to an order in parts that end at every 64th block, and a checkpoint is inserted at each.
 #![tactic(auto)]
 
-ghost use Rattle.std.specs.Prelude.{◌≡◌, true, List, [], ℕ, ◌+◌, ◌*◌, ◌/◌, ◌<◌, ◌≤◌, length};
+ghost use Rattle.std.specs.Prelude.{◌≡◌, true, [], ℕ, ◌+◌, ◌*◌, ◌/◌, ◌<◌, ◌≤◌, length, Ok, Some, IfOk};
 ghost use Rattle.lsh.specs.WordSize.{is_word_size, size_of, block_bytes};
 ghost use Rattle.lsh.specs.Block.{Chain, forwards};
 ghost use Rattle.lsh.specs.Padding.{blocks_of};
+ghost use Rattle.answers.specs.Refusal.{answer_of};
 ghost use Rattle.limits.specs.Limits.{limit};
 ghost use Rattle.orders.specs.declared.Record.{Record};
 ghost use Rattle.orders.specs.Record.{held_of, sound};
+ghost use Rattle.orders.specs.Step.{outcome};
 ghost use Rattle.orders.specs.Append.{appended, append_accepted};
 ghost use Rattle.checkpoints.specs.Due.{spacing};
 ghost use Rattle.checkpoints.specs.Slots.{slot_count};
-ghost use Rattle.checkpoints.specs.Roll.{links, is_roll, checkpoints};
+ghost use Rattle.checkpoints.specs.Roll.{links, checkpoints};
 ghost use Rattle.checkpoints.specs.FreeSlot.{free_slot, FreeChoice};
 ghost use Rattle.checkpoints.specs.Checkpoints.{inserted};
 ghost use Rattle.roll.specs.Traversal.{traversal_of};
 ghost use Rattle.checkpoints.specs.AppendRoll.{append_roll_answer, append_roll_call, appended_roll};
 
-use orders::{Outcome, Record};
+use answers::Refusal;
+use orders::{Record, Step};
 use roll::{SPACING, Traversal};
 use runs::Engine;
 
@@ -30,47 +33,44 @@ struct Progress {
 }
 
 // The record after the piece. Which slot a checkpoint takes is the choice free_slot, of which FreeChoice says what holds.
-pub fn append_roll(engine: Engine, r: Record, piece: &[u8], roll: &mut [u8]) -> Outcome
-    ensures { (result ≡ append_roll_call r piece.now roll.old) × (roll.new ≡ appended_roll r piece.now roll.old) × FreeChoice free_slot }
+pub fn append_roll(
+    engine: Engine,
+    r: Record,
+    piece: &[u8],
+    roll: &mut [u8],
+) -> Result<Step, Refusal>
+    ensures { (outcome r result ≡ append_roll_call r piece.now roll.old) × (roll.new ≡ appended_roll r piece.now roll.old) × FreeChoice free_slot }
 {
-    let y = roll::walk(r.w, roll);
-    let a = answer(r, piece.len(), y);
-    if a != 0 {
-        return record::refused(a, r);
-    }
-    append_parts(engine, r, piece, roll, y)
+    let known = tested(r, piece.len(), roll)?;
+    Ok(append_parts(engine, r, piece, roll, known))
 }
 
-// The number of the answer, where y is what is known of the roll.
-fn answer(r: Record, size: usize, y: Traversal) -> u32
-    ensures { (roll : List ℕ) → y ≡ traversal_of (size_of r.w) roll → result ≡ append_roll_answer r size roll }
+// The tests of the call. One that passes them gets what is known of the roll.
+fn tested(r: Record, size: usize, roll: &[u8]) -> Result<Traversal, Refusal>
+    ensures { (answer_of result ≡ append_roll_answer r size roll.now) × IfOk result (λ y. Some y ≡ traversal_of (size_of r.w) roll.now) }
 {
-    let a = roll::turn(r, record::is_begun(r), y);
-    if a != 0 {
-        return a;
-    }
-    let total = r.total;
-    if limits::LIMIT as u64 - total < size as u64 {
-        return 5;
+    let known = roll::turn(r, record::is_begun(r), roll)?;
+    if limits::LIMIT as u64 - r.total < size as u64 {
+        return Err(Refusal::TooLong);
     }
     // The links are the record's checkpoints, so with those due they are the checkpoints of the order with the piece.
-    if (y.slots as u64) < roll::checkpoints(r.w, total + size as u64) {
-        return 16;
+    if (known.slots as u64) < roll::checkpoints(r.w, r.total + size as u64) {
+        return Err(Refusal::FullRoll);
     }
-    0
+    Ok(known)
 }
 
-// The answer where the tests are passed.
-fn append_parts(engine: Engine, r: Record, piece: &[u8], roll: &mut [u8], y: Traversal) -> Outcome
-    requires { (append_roll_answer r (length piece.now) roll.old ≡ 0) × (y ≡ traversal_of (size_of r.w) roll.old) }
-    ensures { (result ≡ append_accepted r piece.now) × (roll.new ≡ appended_roll r piece.now roll.old) }
+// Where the tests are passed.
+fn append_parts(engine: Engine, r: Record, piece: &[u8], roll: &mut [u8], known: Traversal) -> Step
+    requires { (append_roll_answer r (length piece.now) roll.old ≡ 0) × (Some known ≡ traversal_of (size_of r.w) roll.old) }
+    ensures { (outcome r (Ok result) ≡ append_accepted r piece.now) × (roll.new ≡ appended_roll r piece.now roll.old) }
 {
     let first = to_checkpoint(r.w, r.total);
     if piece.len() < first {
         return append::accepted(engine, r, piece);
     }
     let step = between_checkpoints(r.w);
-    let mut p = first_part(engine, r, &piece[..first], roll, y);
+    let mut p = first_part(engine, r, &piece[..first], roll, known);
     let mut at = first;
     while step <= piece.len() - at {
         let end = at + step;
@@ -97,61 +97,61 @@ fn between_checkpoints(w: u64) -> usize
 }
 
 // The part up to the first checkpoint, which is inserted.
-fn first_part(engine: Engine, r: Record, part: &[u8], roll: &mut [u8], y: Traversal) -> Progress
+fn first_part(engine: Engine, r: Record, part: &[u8], roll: &mut [u8], known: Traversal) -> Progress
     requires { (sound r ≡ true) × (r.total + length part.now ≤ limit)
-        × (is_roll (size_of r.w) roll.old ≡ true) × (y ≡ traversal_of (size_of r.w) roll.old)
+        × (Some known ≡ traversal_of (size_of r.w) roll.old)
         × (length (links (size_of r.w) roll.old) < slot_count (size_of r.w) (length roll.old)) }
     ensures { (result.chain ≡ (appended r part.now).chain)
         × (result.count ≡ (append_accepted r part.now).count)
         × ((k : ℕ) → roll.new ≡ inserted (size_of r.w) (record { number = k; chain = (appended r part.now).chain }) roll.old)
-        × (result.known ≡ traversal_of (size_of r.w) roll.new) }
+        × (Some result.known ≡ traversal_of (size_of r.w) roll.new) }
 {
-    let o = append::accepted(engine, r, part);
-    let next = o.next;
-    let chain = next.chain;
-    let known = roll::insert(r.w, y, roll, chain);
+    let step = append::accepted(engine, r, part);
+    let chain = step.next.chain;
     Progress {
-        chain: chain,
-        count: o.count,
-        known: known,
+        chain,
+        count: step.count,
+        known: roll::insert(r.w, known, roll, chain),
     }
 }
 
 // A part from a checkpoint to the next, which is inserted. Its blocks are run straight from the piece.
 fn next_part(engine: Engine, w: u64, p: Progress, part: &[u8], roll: &mut [u8]) -> Progress
     requires { (is_word_size w ≡ true) × Chain (size_of w) p.chain × (p.count + length part.now ≤ limit)
-        × (is_roll (size_of w) roll.old ≡ true) × (p.known ≡ traversal_of (size_of w) roll.old)
+        × (Some p.known ≡ traversal_of (size_of w) roll.old)
         × (length (links (size_of w) roll.old) < slot_count (size_of w) (length roll.old)) }
     ensures { (result.chain ≡ forwards (size_of w) (blocks_of (size_of w) part.now) p.chain)
         × (result.count ≡ p.count + length part.now / block_bytes (size_of w))
         × ((k : ℕ) → roll.new ≡ inserted (size_of w) (record { number = k; chain = result.chain }) roll.old)
-        × (result.known ≡ traversal_of (size_of w) roll.new) }
+        × (Some result.known ≡ traversal_of (size_of w) roll.new) }
 {
-    let before = p.chain;
-    let known = p.known;
-    let run = runs::forward(engine, w, before, part);
+    let run = runs::forward(engine, w, p.chain, part);
     let chain = run.chain;
-    let y = roll::insert(w, known, roll, chain);
     Progress {
-        chain: chain,
+        chain,
         count: p.count + run.count as u64,
-        known: y,
+        known: roll::insert(w, p.known, roll, chain),
     }
 }
 
 // The last part, from a checkpoint at the place at of the piece. It reaches no other.
-fn last_part(engine: Engine, mut r: Record, p: Progress, at: usize, part: &[u8]) -> Outcome
+fn last_part(engine: Engine, r: Record, p: Progress, at: usize, part: &[u8]) -> Step
     requires { (r.total + at + length part.now ≤ limit) × (p.count ≤ limit)
         × ((order : Record) → order ≡ record { w = r.w; n = r.n; total = r.total + at; chain = p.chain; held = held_of []; split = r.split } → sound order ≡ true) }
     ensures { (order : Record) → order ≡ record { w = r.w; n = r.n; total = r.total + at; chain = p.chain; held = held_of []; split = r.split }
-        → result ≡ record { number = 0; count = p.count + (append_accepted order part.now).count; next = appended order part.now } }
+        → outcome r (Ok result) ≡ record { number = 0; count = p.count + (append_accepted order part.now).count; next = appended order part.now } }
 {
     let chain = p.chain;
     let held = runs::zero_bytes();
-    r.total += at as u64;
-    r.chain = chain;
-    r.held = held;
-    let mut o = append::accepted(engine, r, part);
-    o.count = p.count + o.count;
-    o
+    let order = Record {
+        total: r.total + at as u64,
+        chain,
+        held,
+        ..r
+    };
+    let step = append::accepted(engine, order, part);
+    Step {
+        count: p.count + step.count,
+        next: step.next,
+    }
 }

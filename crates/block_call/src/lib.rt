@@ -1,52 +1,41 @@
 // Block forward and Block backward: one block on the bytes of a chain, for either word size.
 #![tactic(auto)]
 
-ghost use Rattle.std.specs.Prelude.{◌≡◌, not, ◌&&◌, cond, length};
+ghost use Rattle.std.specs.Prelude.{◌≡◌, length};
+ghost use Rattle.answers.specs.Refusal.{answer_of};
 ghost use Rattle.blocks.specs.BlockCall.{block_answer, forward_bytes, backward_bytes};
 
+use answers::Refusal;
 use runs::Engine;
 
-// Runs the block forward, if the answer is 0.
-pub fn forward(engine: Engine, w: u64, chain: &mut [u8], block: &[u8]) -> u32
-    ensures { (result ≡ block_answer w (length chain.old) (length block.now)) × (chain.new ≡ forward_bytes w chain.old block.now) }
+// Runs the block forward, if the call is accepted.
+pub fn forward(engine: Engine, w: u64, chain: &mut [u8], block: &[u8]) -> Result<(), Refusal>
+    ensures { (answer_of result ≡ block_answer w (length chain.old) (length block.now)) × (chain.new ≡ forward_bytes w chain.old block.now) }
 {
-    let a = answer(w, chain.len(), block.len());
-    if a != 0 {
-        return a;
-    }
+    answer(w, chain.len(), block.len())?;
     runs::forward_bytes(engine, w, chain, block);
-    0
+    Ok(())
 }
 
-// Runs the block backward, if the answer is 0.
-pub fn backward(engine: Engine, w: u64, chain: &mut [u8], block: &[u8]) -> u32
-    ensures { (result ≡ block_answer w (length chain.old) (length block.now)) × (chain.new ≡ backward_bytes w chain.old block.now) }
+// Runs the block backward, if the call is accepted.
+pub fn backward(engine: Engine, w: u64, chain: &mut [u8], block: &[u8]) -> Result<(), Refusal>
+    ensures { (answer_of result ≡ block_answer w (length chain.old) (length block.now)) × (chain.new ≡ backward_bytes w chain.old block.now) }
 {
-    let a = answer(w, chain.len(), block.len());
-    if a != 0 {
-        return a;
-    }
+    answer(w, chain.len(), block.len())?;
     runs::backward_bytes(engine, w, chain, block);
-    0
+    Ok(())
 }
 
-// The answer to a call, by w and the lengths of chain and block.
-fn answer(w: u64, chain: usize, block: usize) -> u32
-    ensures { result ≡ block_answer w chain block }
+// The tests of a call, by w and the lengths of chain and block.
+#[tactic(auto, unfolding(blocks::specs::BlockCall::block_answer, blocks::specs::BlockCall::are_lengths))]
+fn answer(w: u64, chain: usize, block: usize) -> Result<(), Refusal>
+    ensures { answer_of result ≡ block_answer w chain block }
 {
     if !runs::is_word_size(w) {
-        return 1;
+        return Err(Refusal::BadWordSize);
     }
-    length_answer(chain == runs::chain_bytes(w), block == runs::block_bytes(w))
-}
-
-fn length_answer(chain: bool, block: bool) -> u32
-    ensures { result ≡ cond (not (chain && block)) 4 0 }
-{
-    if chain {
-        if block {
-            return 0;
-        }
+    if chain != runs::chain_bytes(w) || block != runs::block_bytes(w) {
+        return Err(Refusal::BadLength);
     }
-    4
+    Ok(())
 }

@@ -9,10 +9,12 @@ ghost use Rattle.lsh.specs.Block.{Chain, forwards};
 ghost use Rattle.lsh.specs.Bits.{bytes_of_bits};
 ghost use Rattle.lsh.specs.Padding.{blocks_of};
 ghost use Rattle.lsh.specs.Hash.{final_bytes, digest};
+ghost use Rattle.answers.specs.Refusal.{answer_of};
 ghost use Rattle.limits.specs.Limits.{longest_block, longest_digest};
 ghost use Rattle.receipts.specs.Receipt.{receipt_bytes, receipt};
 ghost use Rattle.receipts.specs.Ending.{end_answer};
 
+use answers::Refusal;
 use limits::LONGEST_BLOCK;
 use runs::Engine;
 
@@ -31,20 +33,21 @@ pub const MOST_BITS: u64 = 8 * limits::LIMIT as u64 + 7;
 // What padding puts after whole bytes: the bit 1, and zeros to the end of its byte.
 pub const PAD: u8 = 0x80;
 
-// The answer by the end of a message and the size of the output.
-pub fn end_answer(last: u8, e: u64, size: usize) -> u32
-    ensures { result ≡ end_answer last e size }
+// The tests of the end of a message and of the size of the output.
+#[tactic(auto, unfolding(receipts::specs::Ending::end_answer, receipts::specs::Receipt::receipt_bytes))]
+pub fn end_answer(last: u8, e: u64, size: usize) -> Result<(), Refusal>
+    ensures { answer_of result ≡ end_answer last e size }
 {
     if 7 < e {
-        return 10;
+        return Err(Refusal::BadExtraBits);
     }
     if low_bits(last, e as u32) != 0 {
-        return 11;
+        return Err(Refusal::BadLastByte);
     }
     if size < RECEIPT {
-        return 12;
+        return Err(Refusal::ShortOutput);
     }
-    0
+    Ok(())
 }
 
 // The low 8 - e bits of a byte.
@@ -69,9 +72,8 @@ pub fn message_chain(engine: Engine, w: u64, t: [u64; 16], message: &[u8], pad: 
     ensures { result ≡ forwards (size_of w) (blocks_of (size_of w) (message.now ++ pad ∷ replicate (block_bytes (size_of w) - 1 - length message.now % block_bytes (size_of w)) 0)) t }
 {
     let run = runs::forward(engine, w, t, message);
-    let c = run.chain;
     let whole = run.count * runs::block_bytes(w);
-    last_chain(engine, w, c, &message[whole..], pad)
+    last_chain(engine, w, run.chain, &message[whole..], pad)
 }
 
 // The chain after the last block, of the bytes that are left over and the padding.
@@ -81,8 +83,7 @@ pub fn last_chain(engine: Engine, w: u64, t: [u64; 16], rest: &[u8], pad: u8) ->
 {
     let size = runs::block_bytes(w);
     let block = last_block(rest, pad);
-    let run = runs::forward(engine, w, t, &block[..size]);
-    run.chain
+    runs::forward(engine, w, t, &block[..size]).chain
 }
 
 fn last_block(rest: &[u8], pad: u8) -> [u8; LONGEST_BLOCK]
@@ -90,8 +91,7 @@ fn last_block(rest: &[u8], pad: u8) -> [u8; LONGEST_BLOCK]
     ensures { result ≡ rest.now ++ pad ∷ replicate (longest_block - 1 - length rest.now) 0 }
 {
     let mut b = runs::zero_filled(rest);
-    let n = rest.len();
-    b[n] = pad;
+    b[rest.len()] = pad;
     b
 }
 
@@ -102,8 +102,7 @@ pub fn write_receipt(w: u64, n: u64, t: [u64; 16], bits: u64, output: &mut [u8])
 {
     let size = ((n + 7) / 8) as usize;
     let bytes = digest_bytes(w, n, t);
-    let end = RECEIPT;
-    buffers::fill(&mut output[..end], 0);
+    output[..RECEIPT].fill(0);
     output[0] = w as u8;
     output[2] = (n % 256) as u8;
     output[3] = (n / 256) as u8;
@@ -118,8 +117,7 @@ pub fn digest_bytes(w: u64, n: u64, t: [u64; 16]) -> [u8; LONGEST_BLOCK]
 {
     let mut s = final_bytes(w, t);
     let last = (n / 8) as usize;
-    let x = s[last];
-    s[last] = x - low_bits(x, (n % 8) as u32);
+    s[last] -= low_bits(s[last], (n % 8) as u32);
     s
 }
 

@@ -18,7 +18,7 @@ const LONGEST: usize = LENGTH - DIGEST;
 pub struct Fingerprint {
     // The receipt, or the tag at the front.
     bytes: [u8; RECEIPT],
-    // The part of the bytes that is printed.
+    // The part of the bytes that is printed, by places and not as a slice, since a struct cannot borrow from itself.
     from: usize,
     to: usize,
     // The length of the file in bits.
@@ -61,19 +61,23 @@ pub fn of_file(rt: &HostRuntime, k: Kind, key: Option<&[u8]>, name: &[u8]) -> Op
     })
 }
 
-// The record to which a file is appended.
+// The record to which a file is appended; the empty one where the call is refused.
 fn started(engine: Engine, w: u64, n: u64, key: Option<&[u8]>) -> Record {
-    match key {
-        Some(key) => tag::start(engine, w, n, key).next,
-        None => record::open(engine, w, n).next,
+    let started = match key {
+        Some(key) => tag::start(engine, w, n, key),
+        None => record::open(engine, w, n),
+    };
+    match started {
+        Ok(step) => step.next,
+        Err(_) => record::no_record(),
     }
 }
 
-// The receipt of a record, or its digest alone.
+// The receipt of a record, or its digest alone; zeros where the call is refused.
 #[tactic(auto, unfolding(receipts::specs::Receipt::receipt_bytes))]
 fn of_record(engine: Engine, r: Record, digest_alone: bool) -> Fingerprint {
     let mut receipt = [0u8; RECEIPT];
-    close::close(engine, r, 0, 0, &mut receipt);
+    let _ = close::close(engine, r, 0, 0, &mut receipt);
     let bits = same::bit_length_of(&receipt);
     if digest_alone {
         return part(receipt, DIGEST, digest_bytes(r.n), bits);
@@ -81,10 +85,11 @@ fn of_record(engine: Engine, r: Record, digest_alone: bool) -> Fingerprint {
     part(receipt, 0, RECEIPT, bits)
 }
 
+// The tag; zeros where the call is refused.
 #[tactic(auto, unfolding(receipts::specs::Receipt::receipt_bytes))]
 fn tagged(engine: Engine, r: Record, bits: u64, key: &[u8]) -> Fingerprint {
     let mut tag = [0u8; RECEIPT];
-    tag::finish(engine, r, key, &mut tag);
+    let _ = tag::finish(engine, r, key, &mut tag);
     part(tag, 0, digest_bytes(r.n), bits)
 }
 
@@ -103,15 +108,12 @@ fn part(bytes: [u8; RECEIPT], from: usize, size: usize, bits: u64) -> Fingerprin
 
 // The bits of what was appended since the record had this total.
 fn bits_since(before: u64, total: u64) -> u64 {
-    std::num::wrapping_sub_u64(total, before) << 3
+    8u64.saturating_mul(total.saturating_sub(before))
 }
 
-// The bytes of a digest, or a tag, of n bits.
+// The bytes of a digest, or a tag, of n bits, which are not more than the longest has.
 pub fn digest_bytes(n: u64) -> usize
     ensures { result ≤ length_place - digest_place }
 {
-    if runs::longest_digest(64) < n {
-        return LONGEST;
-    }
-    n.div_ceil(8) as usize
+    (n.div_ceil(8) as usize).min(LONGEST)
 }

@@ -1,13 +1,25 @@
 // Files read in chunks, and what they hold appended to a record.
-ghost use Rattle.std.specs.Prelude.{◌≤◌, length, IfSome};
-
 use orders::Record;
 use program::files::Source;
 use program::{files, messages};
 use runs::Engine;
-use std::io::Read;
+use std::io::{Error, Read};
 
-// The record of a file's bytes; nothing where they could not be read, which is said.
+// Why a file makes no record.
+#[derive(Clone, Copy)]
+enum Fault {
+    Unread(Error),
+    // It has more bytes than an order can have.
+    TooLong,
+}
+
+impl From<Error> for Fault {
+    fn from(error: Error) -> Fault {
+        Fault::Unread(error)
+    }
+}
+
+// The record of a file's bytes; nothing where it makes none, which is said.
 pub fn read_file(
     rt: &HostRuntime,
     engine: Engine,
@@ -15,10 +27,14 @@ pub fn read_file(
     input_taken: bool,
     opened: Record,
 ) -> Option<Record> {
-    let mut source = open_file(rt, name, input_taken)?;
-    let r = read_all(rt, engine, &mut source, name, opened);
-    files::close(source);
-    r
+    let source = open_file(rt, name, input_taken)?;
+    match read_all(engine, source, opened) {
+        Ok(r) => Some(r),
+        Err(fault) => {
+            say(rt, name, fault);
+            None
+        }
+    }
 }
 
 // What a name names, or nothing where it cannot be read, which is said. Standard input that is read for something else is no file.
@@ -36,55 +52,36 @@ pub fn open_file(rt: &HostRuntime, name: &[u8], input_taken: bool) -> Option<Sou
 }
 
 // A proved loop has to end, and nothing says that a file does, so the reads are counted up to a number that no run comes to.
-fn read_all(
-    rt: &HostRuntime,
-    engine: Engine,
-    source: &mut Source,
-    name: &[u8],
-    opened: Record,
-) -> Option<Record> {
+fn read_all(engine: Engine, mut source: Source, opened: Record) -> Result<Record, Fault> {
     let mut chunk = io::large_buffer();
     let mut r = opened;
     for _ in 0..u64::MAX {
-        let n = read_some(rt, source, name, &mut chunk)?;
+        let n = source.read(&mut chunk)?;
         if n == 0 {
             break;
         }
-        r = append(rt, engine, name, r, &chunk[..n])?;
+        r = append(engine, r, &chunk[..n])?;
     }
-    Some(r)
-}
-
-// Reads once, and answers how many bytes came.
-fn read_some(rt: &HostRuntime, source: &mut Source, name: &[u8], chunk: &mut [u8]) -> Option<usize>
-    ensures { IfSome result (λ n. n ≤ length chunk.new) }
-{
-    match source.read(chunk) {
-        Ok(n) => Some(n),
-        Err(e) => {
-            messages::fail(rt, b"receipt", name, e);
-            None
-        }
-    }
+    Ok(r)
 }
 
 // Appends the bytes of a read.
-fn append(
-    rt: &HostRuntime,
-    engine: Engine,
-    name: &[u8],
-    r: Record,
-    piece: &[u8],
-) -> Option<Record> {
-    let o = append::append(engine, r, piece);
-    if o.number != 0 {
-        messages::say(
+fn append(engine: Engine, r: Record, piece: &[u8]) -> Result<Record, Fault> {
+    match append::append(engine, r, piece) {
+        Ok(step) => Ok(step.next),
+        Err(_) => Err(Fault::TooLong),
+    }
+}
+
+// Says why a file makes no record.
+fn say(rt: &HostRuntime, name: &[u8], fault: Fault) {
+    match fault {
+        Fault::Unread(e) => messages::fail(rt, b"receipt", name, e),
+        Fault::TooLong => messages::say(
             rt,
             b"receipt",
             name,
             b"it has more than 2^40 bytes, the key's block counted if there is a key",
-        );
-        return None;
+        ),
     }
-    Some(o.next)
 }

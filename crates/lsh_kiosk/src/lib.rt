@@ -1,5 +1,5 @@
 // The calls for C. Each is declared, with its answers, in include/lsh_kiosk.h, and is one line over the call that it carries the
-// equation of. Records and answers pass by value, and the engine as a number, which only runs::engine_of reads.
+// equation of, with the number in place of a refusal. Records and answers pass by value, and the engine as a number, which only runs::engine_of reads.
 #![tactic(auto)]
 
 ghost use Rattle.std.specs.Prelude.{◌≡◌, length};
@@ -32,70 +32,79 @@ use receipts::{Counts, Sameness};
 pub extern "C" fn lsh_block_forward(engine: u64, w: u64, chain: &mut [u8], block: &[u8]) -> u32
     ensures { (result ≡ block_answer w (length chain.old) (length block.now)) × (chain.new ≡ forward_bytes w chain.old block.now) }
 {
-    block_call::forward(runs::engine_of(engine), w, chain, block)
+    numbered::answer(block_call::forward(runs::engine_of(engine), w, chain, block))
 }
 
 #[unsafe(no_mangle)]
 pub extern "C" fn lsh_block_backward(engine: u64, w: u64, chain: &mut [u8], block: &[u8]) -> u32
     ensures { (result ≡ block_answer w (length chain.old) (length block.now)) × (chain.new ≡ backward_bytes w chain.old block.now) }
 {
-    block_call::backward(runs::engine_of(engine), w, chain, block)
+    numbered::answer(block_call::backward(runs::engine_of(engine), w, chain, block))
 }
 
 #[unsafe(no_mangle)]
 pub extern "C" fn lsh_open(engine: u64, w: u64, n: u64) -> Outcome
     ensures { result ≡ open_call w n }
 {
-    record::open(runs::engine_of(engine), w, n)
+    numbered::outcome(
+        record::no_record(),
+        record::open(runs::engine_of(engine), w, n),
+    )
 }
 
 #[unsafe(no_mangle)]
 pub extern "C" fn lsh_append(engine: u64, r: Record, piece: &[u8]) -> Outcome
     ensures { result ≡ append_call r piece.now }
 {
-    append::append(runs::engine_of(engine), r, piece)
+    numbered::outcome(r, append::append(runs::engine_of(engine), r, piece))
 }
 
 #[unsafe(no_mangle)]
 pub extern "C" fn lsh_rewind(engine: u64, r: Record, keep: u64, h: &[u8]) -> Outcome
     ensures { result ≡ rewind_call r keep h.now }
 {
-    rewind::rewind(runs::engine_of(engine), r, keep, h)
+    numbered::outcome(r, rewind::rewind(runs::engine_of(engine), r, keep, h))
 }
 
 #[unsafe(no_mangle)]
 pub extern "C" fn lsh_begin(r: Record, bytes: &[u8]) -> Outcome
     ensures { result ≡ begin_call r bytes.now }
 {
-    split_rewind::begin(r, bytes)
+    numbered::outcome(r, split_rewind::begin(r, bytes))
 }
 
 #[unsafe(no_mangle)]
 pub extern "C" fn lsh_hand_back(engine: u64, r: Record, block: &[u8]) -> Outcome
     ensures { result ≡ hand_back_call r block.now }
 {
-    split_rewind::hand_back(runs::engine_of(engine), r, block)
+    numbered::outcome(
+        r,
+        split_rewind::hand_back(runs::engine_of(engine), r, block),
+    )
 }
 
 #[unsafe(no_mangle)]
 pub extern "C" fn lsh_end(engine: u64, r: Record, keep: u64) -> Outcome
     ensures { result ≡ end_call r keep }
 {
-    split_rewind::end(runs::engine_of(engine), r, keep)
+    numbered::outcome(r, split_rewind::end(runs::engine_of(engine), r, keep))
 }
 
 #[unsafe(no_mangle)]
 pub extern "C" fn lsh_abandon(r: Record) -> Outcome
     ensures { result ≡ abandon_call r }
 {
-    split_rewind::abandon(r)
+    numbered::outcome(r, split_rewind::abandon(r))
 }
 
 #[unsafe(no_mangle)]
 pub extern "C" fn lsh_append_roll(engine: u64, r: Record, piece: &[u8], roll: &mut [u8]) -> Outcome
     ensures { (result ≡ append_roll_call r piece.now roll.old) × (roll.new ≡ appended_roll r piece.now roll.old) × FreeChoice free_slot }
 {
-    append_roll::append_roll(runs::engine_of(engine), r, piece, roll)
+    numbered::outcome(
+        r,
+        append_roll::append_roll(runs::engine_of(engine), r, piece, roll),
+    )
 }
 
 #[unsafe(no_mangle)]
@@ -108,21 +117,27 @@ pub extern "C" fn lsh_rewind_roll(
 ) -> Outcome
     ensures { (result ≡ rewind_roll_call r keep h.now roll.old) × (roll.new ≡ rewound_roll r keep h.now roll.old) }
 {
-    rewind_roll::rewind_roll(runs::engine_of(engine), r, keep, h, roll)
+    numbered::outcome(
+        r,
+        rewind_roll::rewind_roll(runs::engine_of(engine), r, keep, h, roll),
+    )
 }
 
 #[unsafe(no_mangle)]
 pub extern "C" fn lsh_end_roll(engine: u64, r: Record, keep: u64, roll: &mut [u8]) -> Outcome
     ensures { (result ≡ end_roll_call r keep roll.old) × (roll.new ≡ ended_roll r keep roll.old) }
 {
-    rewind_roll::end_roll(runs::engine_of(engine), r, keep, roll)
+    numbered::outcome(
+        r,
+        rewind_roll::end_roll(runs::engine_of(engine), r, keep, roll),
+    )
 }
 
 #[unsafe(no_mangle)]
 pub extern "C" fn lsh_close(engine: u64, r: Record, last: u8, e: u64, output: &mut [u8]) -> u32
     ensures { (result ≡ close_answer r last e (length output.old)) × (output.new ≡ close_output r last e output.old) }
 {
-    close::close(runs::engine_of(engine), r, last, e, output)
+    numbered::answer(close::close(runs::engine_of(engine), r, last, e, output))
 }
 
 #[unsafe(no_mangle)]
@@ -137,21 +152,21 @@ pub extern "C" fn lsh_whole(
 ) -> u32
     ensures { (result ≡ whole_answer w n (length message.now) last e (length output.old)) × (output.new ≡ whole_output w n message.now last e output.old) }
 {
-    whole::whole(runs::engine_of(engine), w, n, message, last, e, output)
+    numbered::answer(whole::whole(runs::engine_of(engine), w, n, message, last, e, output))
 }
 
 #[unsafe(no_mangle)]
 pub extern "C" fn lsh_same(a: &[u8], b: &[u8]) -> Sameness
     ensures { result ≡ same_call a.now b.now }
 {
-    same::same(a, b)
+    numbered::sameness(same::same(a, b))
 }
 
 #[unsafe(no_mangle)]
 pub extern "C" fn lsh_tally(list: &[u8]) -> Counts
     ensures { result ≡ tally_call list.now }
 {
-    tally::tally(list)
+    numbered::counts(tally::tally(list))
 }
 
 #[unsafe(no_mangle)]
@@ -165,21 +180,24 @@ pub extern "C" fn lsh_tag(
 ) -> u32
     ensures { (result ≡ tag_answer w n (length key.now) (length message.now) (length output.old)) × (output.new ≡ tag_output w n key.now message.now output.old) }
 {
-    tag::tag(runs::engine_of(engine), w, n, key, message, output)
+    numbered::answer(tag::tag(runs::engine_of(engine), w, n, key, message, output))
 }
 
 #[unsafe(no_mangle)]
 pub extern "C" fn lsh_tag_start(engine: u64, w: u64, n: u64, key: &[u8]) -> Outcome
     ensures { result ≡ start_call w n key.now }
 {
-    tag::start(runs::engine_of(engine), w, n, key)
+    numbered::outcome(
+        record::no_record(),
+        tag::start(runs::engine_of(engine), w, n, key),
+    )
 }
 
 #[unsafe(no_mangle)]
 pub extern "C" fn lsh_tag_finish(engine: u64, r: Record, key: &[u8], output: &mut [u8]) -> u32
     ensures { (result ≡ finish_answer r (length key.now) (length output.old)) × (output.new ≡ finish_output r key.now output.old) }
 {
-    tag::finish(runs::engine_of(engine), r, key, output)
+    numbered::answer(tag::finish(runs::engine_of(engine), r, key, output))
 }
 
 #[unsafe(no_mangle)]
@@ -193,5 +211,5 @@ pub extern "C" fn lsh_tag_check(
 ) -> Sameness
     ensures { result ≡ check_call w n key.now message.now tag.now }
 {
-    tag::check(runs::engine_of(engine), w, n, key, message, tag)
+    numbered::sameness(tag::check(runs::engine_of(engine), w, n, key, message, tag))
 }

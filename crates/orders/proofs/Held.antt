@@ -13,6 +13,9 @@ use Rattle.limits.proofs.Limits.{block-most}
 use Rattle.orders.specs.declared.Record.{Record}
 use Rattle.orders.specs.Record.{held_length, held_bytes}
 
+pub fill-most : (w total : ℕ) → held_length w total ≤ longest_block
+fill-most w total = omega (arith, mod-lt total (block-some w), block-most w)
+
 module _ (r : Record) (long : length r.held ≡ longest_block) where
   abbrev B : ℕ
   B = block_bytes (size_of r.w)

@@ -2,6 +2,7 @@
 pub mod Split
 pub mod Record
 pub mod Arrays
+pub mod Step
 pub mod Open
 pub mod Turn
 pub mod Append

@@ -28,6 +28,13 @@ pub struct Split {
     pub blocks: u64,
 }
 
+// What an accepted call gives: how many blocks were run, and the record that follows.
+#[derive(Clone, Copy)]
+pub struct Step {
+    pub count: u64,
+    pub next: Record,
+}
+
 // The answer to a call: its number, how many blocks were run, and the record that follows. C has it as lsh_outcome.
 #[repr(C)]
 #[derive(Clone, Copy)]

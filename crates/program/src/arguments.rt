@@ -9,7 +9,7 @@ use std::marker::PhantomData;
 use std::rt::Env;
 
 // Options of a program, by their names.
-pub trait Named {
+pub trait Named: Copy {
     fn of_name(name: &[u8]) -> Option<Self>;
 }
 
@@ -75,7 +75,7 @@ pub struct Arguments<'a, F, V> {
 }
 
 // The arguments of the program.
-pub fn all<F: Named + Drop, V: Named + Drop>(rt: &HostRuntime) -> Arguments<'_, F, V> {
+pub fn all<F: Named, V: Named>(rt: &HostRuntime) -> Arguments<'_, F, V> {
     Arguments {
         rt,
         i: 1,
@@ -101,7 +101,7 @@ pub fn is_missing(rt: &HostRuntime, i: usize) -> bool {
     matches!(rt.arg(i, &mut room), Err(FillError::NotPresent))
 }
 
-impl<'a, F: Named + Drop, V: Named + Drop> Iterator for Arguments<'a, F, V> {
+impl<'a, F: Named, V: Named> Iterator for Arguments<'a, F, V> {
     type Item = Argument<F, V>;
 
     ghost remaining = { λ s. at_most (s.end - s.i) };
@@ -137,16 +137,12 @@ fn after<F, V>(argument: &Argument<F, V>, i: usize) -> Next {
 }
 
 // Argument i, which may be an option; next is the one after it. One that is too long is read as an empty one, which is no option.
-fn read<F: Named + Drop, V: Named + Drop>(
-    rt: &HostRuntime,
-    i: usize,
-    next: usize,
-) -> Argument<F, V> {
+fn read<F: Named, V: Named>(rt: &HostRuntime, i: usize, next: usize) -> Argument<F, V> {
     let mut text = io::buffer();
     of_text(i, get_or_empty(rt, i, &mut text), next)
 }
 
-fn of_text<F: Named + Drop, V: Named + Drop>(i: usize, text: &[u8], next: usize) -> Argument<F, V> {
+fn of_text<F: Named, V: Named>(i: usize, text: &[u8], next: usize) -> Argument<F, V> {
     match text {
         b"--" => Argument::End,
         [b'-', _, ..] => of_option(i, text, next),
@@ -155,47 +151,40 @@ fn of_text<F: Named + Drop, V: Named + Drop>(i: usize, text: &[u8], next: usize)
 }
 
 // An argument that begins as an option does.
-fn of_option<F: Named + Drop, V: Named + Drop>(
-    i: usize,
-    text: &[u8],
-    next: usize,
-) -> Argument<F, V> {
-    let end = name_end(text);
-    let name = &text[..end];
-    let attached = end < text.len();
+fn of_option<F: Named, V: Named>(i: usize, text: &[u8], next: usize) -> Argument<F, V> {
+    let (name, value) = split(text);
     if let Some(option) = V::of_name(name) {
-        return Argument::Valued(option, value_start(i, text, end, next));
+        return Argument::Valued(option, value_start(i, value, next));
     }
     match F::of_name(name) {
         None => Argument::Wrong(i, Wrong::Unknown),
-        Some(_) if attached => Argument::Wrong(i, Wrong::Valued),
+        Some(_) if value.is_some() => Argument::Wrong(i, Wrong::Valued),
         Some(flag) => Argument::Flag(flag),
     }
 }
 
-// Where the name of an option ends, behind which its value may stand in the same argument: -w32, --key=FILE.
-fn name_end(text: &[u8]) -> usize
-    ensures { result ≤ length text.now }
-{
+// The name of an option, and where its value begins behind it if it stands in the same argument: -w32, --key=FILE.
+fn split(text: &[u8]) -> (&[u8], Option<usize>) {
     if text.starts_with(b"--") {
-        return script::until(text, b'=');
-    }
-    text.len().min(2)
-}
-
-// Where the value of an option begins whose name ends at a place of argument i: behind the name, after = if that is long, or in the next argument.
-fn value_start(i: usize, text: &[u8], end: usize, next: usize) -> Start
-    requires { end ≤ length text.now }
-{
-    if end == text.len() {
-        return Start {
-            argument: next,
-            byte: 0,
+        return match text.iter().position(|c| *c == b'=') {
+            Some(n) => (&text[..n], Some(n + 1)),
+            None => (text, None),
         };
     }
-    Start {
-        argument: i,
-        byte: end + text.starts_with(b"--") as usize,
+    match text.split_at_checked(2) {
+        Some((name, [_, ..])) => (name, Some(2)),
+        _ => (text, None),
+    }
+}
+
+// Where the value of an option begins: at a byte of argument i, or else in the next argument.
+fn value_start(i: usize, value: Option<usize>, next: usize) -> Start {
+    match value {
+        Some(byte) => Start { argument: i, byte },
+        None => Start {
+            argument: next,
+            byte: 0,
+        },
     }
 }
 
@@ -213,10 +202,7 @@ pub fn get<'a>(rt: &HostRuntime, i: usize, room: &'a mut [u8]) -> Option<&'a [u8
 pub fn get_or_empty<'a>(rt: &HostRuntime, i: usize, room: &'a mut [u8]) -> &'a [u8]
     ensures { length result.now ≤ length room.old }
 {
-    match rt.arg(i, room) {
-        Ok(n) => &room[..n],
-        Err(_) => &room[..0],
-    }
+    get(rt, i, room).unwrap_or_default()
 }
 
 // The text from a place on.

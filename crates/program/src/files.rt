@@ -33,7 +33,7 @@ impl Read for Source {
 
 // Whether a name is that of standard input.
 pub fn is_standard_input(name: &[u8]) -> bool {
-    buffers::equal_bytes(name, b"-")
+    matches!(name, b"-")
 }
 
 // What a name names, or nothing where it cannot be opened, which is said.
@@ -55,7 +55,7 @@ fn open_file(rt: &HostRuntime, name: &[u8]) -> std::io::Result<File> {
     if NAME <= name.len() {
         return Err(Error::from_raw_os_error(TOO_LONG));
     }
-    if script::until(name, 0) < name.len() {
+    if name.contains(&0) {
         return Err(Error::from_raw_os_error(INVALID));
     }
     match std::str::from_utf8(name) {

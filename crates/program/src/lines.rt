@@ -12,7 +12,7 @@ const CHUNK: usize = 65536;
 pub struct Lines {
     source: Source,
     chunk: [u8; CHUNK],
-    // The part of the chunk that is still to be taken in.
+    // The part of the chunk that is still to be taken in, by places and not as a slice, since a struct cannot borrow from itself.
     from: usize,
     to: usize,
     // Whether the file has ended.
@@ -68,7 +68,7 @@ impl Lines {
         requires { most ≤ length room.old }
     {
         let rest = &self.chunk[self.from..self.to];
-        let n = script::until(rest, b'\n');
+        let n = rest.iter().position(|c| *c == b'\n').unwrap_or(rest.len());
         let joined = join(size, &rest[..n], room, most);
         self.from += n;
         joined

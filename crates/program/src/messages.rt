@@ -49,18 +49,18 @@ fn end_with(rt: &HostRuntime, name: &[u8], fault: &[u8]) {
     write(rt, b"\n");
 }
 
+// Writes a name, of which as much is taken as a name can have.
 fn write_name(rt: &HostRuntime, name: &[u8]) {
     let mut text = buffer();
     let n = escape(name, &mut text);
-    write(rt, &text[0..n]);
+    write(rt, &text[..n]);
 }
 
 // Says why the system refused a call on a file.
 pub fn fail(rt: &HostRuntime, program: &[u8], name: &[u8], error: Error) {
-    let mut text = buffer();
-    let n = escape(name, &mut text);
     tell(rt, program, b"");
-    write_cause(rt, &text[0..n], error);
+    write_name(rt, name);
+    write_cause(rt, b"", error);
 }
 
 // A line that ends with what failed, a colon, and what the system says of the error.
@@ -112,22 +112,13 @@ fn tell(rt: &HostRuntime, a: &[u8], b: &[u8]) {
     write(rt, b);
 }
 
-// Writes a name, of which as much is taken as a name can have, escaped at the front of its room.
+// Puts the part of a name that is written, escaped, at the front of its room.
 fn escape(name: &[u8], room: &mut [u8]) -> usize
     requires { escaped_bytes ≡ length room.old }
     ensures { result ≤ escaped_bytes }
 {
-    let n = least(name.len(), NAME);
-    names::put(room, 0, &name[0..n])
-}
-
-fn least(a: usize, b: usize) -> usize
-    ensures { (result ≤ a) × (result ≤ b) }
-{
-    if a < b {
-        return a;
-    }
-    b
+    let n = name.len().min(NAME);
+    names::put(room, 0, &name[..n])
 }
 
 fn buffer() -> [u8; ESCAPED]

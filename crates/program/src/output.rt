@@ -2,7 +2,7 @@
 use crate::messages;
 use std::io::{Error, ErrorKind};
 
-// Writes all of the bytes. If that fails, the cause is said, and the program has to end.
+// Writes all of the bytes, and answers whether that went well. If it did not, the cause is said, and the program has to end.
 pub fn write(rt: &HostRuntime, program: &[u8], bytes: &[u8]) -> bool {
     match rt.write_all(bytes) {
         Ok(()) => true,

@@ -192,7 +192,7 @@ impl<'a> Listed<'a> {
     // Whether that is listed which is made of the file now. Receipts are compared by Same; of a digest or a tag every byte is compared, as in the check of a tag.
     fn agrees(&self, f: Fingerprint) -> bool {
         match self {
-            Listed::Receipt(receipt) => same::same(receipt, &f.receipt()).same,
+            Listed::Receipt(receipt) => same::same(receipt, &f.receipt()) == Ok(true),
             Listed::Part(bytes) => buffers::equal_bytes(bytes, f.shown()),
         }
     }
@@ -200,7 +200,7 @@ impl<'a> Listed<'a> {
 
 // Whether these bytes are a receipt that could have been written: such a one is the same as itself.
 fn is_receipt(bytes: &[u8; RECEIPT]) -> bool {
-    same::same(bytes, bytes).number == 0
+    same::same(bytes, bytes).is_ok()
 }
 
 // Says what was found in the list of a name, and answers whether all of it is right.

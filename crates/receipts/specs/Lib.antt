@@ -10,3 +10,4 @@ pub mod Same
 pub mod Written
 pub mod Kinds
 pub mod Tally
+pub mod Numbered

@@ -31,16 +31,19 @@ fn truth(kind: u64, v: [u64; WORDS], s: State, given: &[u8]) -> Reply {
 fn call(engine: Engine, kind: u64, v: [u64; WORDS], given: &[u8]) -> Sameness {
     match kind {
         // same BYTES BYTES
-        SAME => same::same(words::part(given, 0, v[0]), words::part(given, v[0], v[1])),
+        SAME => numbered::sameness(same::same(
+            words::part(given, 0, v[0]),
+            words::part(given, v[0], v[1]),
+        )),
         // tagcheck W N KEY MESSAGE TAG
-        TAGCHECK => tag::check(
+        TAGCHECK => numbered::sameness(tag::check(
             engine,
             v[0],
             v[1],
             words::part(given, 0, v[2]),
             words::part(given, v[2], v[3]),
             words::part(given, v[3], v[4]),
-        ),
+        )),
         _ => Sameness {
             number: 0,
             same: false,
@@ -50,7 +53,7 @@ fn call(engine: Engine, kind: u64, v: [u64; WORDS], given: &[u8]) -> Sameness {
 
 // tally BYTES: only 14 comes with the place of a malformed receipt.
 fn tally(v: [u64; WORDS], s: State, given: &[u8]) -> Reply {
-    let t = tally::tally(words::part(given, 0, v[0]));
+    let t = numbered::counts(tally::tally(words::part(given, 0, v[0])));
     let number = t.number as u64;
     if number == 14 {
         return reply::numbers(

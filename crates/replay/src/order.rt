@@ -36,21 +36,34 @@ pub fn answer(kind: u64, v: [u64; WORDS], s: State, given: &[u8]) -> Reply {
 fn call(engine: Engine, kind: u64, v: [u64; WORDS], r: Record, given: &[u8]) -> Outcome {
     match kind {
         // open W N
-        OPEN => record::open(engine, v[0], v[1]),
+        OPEN => numbered::outcome(record::no_record(), record::open(engine, v[0], v[1])),
         // append BYTES
-        APPEND => append::append(engine, r, words::part(given, 0, v[0])),
+        APPEND => numbered::outcome(r, append::append(engine, r, words::part(given, 0, v[0]))),
         // rewind KEEP BYTES
-        REWIND => rewind::rewind(engine, r, v[0], words::part(given, 0, v[1])),
+        REWIND => numbered::outcome(
+            r,
+            rewind::rewind(engine, r, v[0], words::part(given, 0, v[1])),
+        ),
         // begin BYTES
-        BEGIN => split_rewind::begin(r, words::part(given, 0, v[0])),
+        BEGIN => numbered::outcome(r, split_rewind::begin(r, words::part(given, 0, v[0]))),
         // handback BYTES
-        HANDBACK => split_rewind::hand_back(engine, r, words::part(given, 0, v[0])),
+        HANDBACK => numbered::outcome(
+            r,
+            split_rewind::hand_back(engine, r, words::part(given, 0, v[0])),
+        ),
         // end KEEP
-        END => split_rewind::end(engine, r, v[0]),
+        END => numbered::outcome(r, split_rewind::end(engine, r, v[0])),
         // abandon
-        ABANDON => split_rewind::abandon(r),
+        ABANDON => numbered::outcome(r, split_rewind::abandon(r)),
         // tagstart W N KEY
-        TAGSTART => tag::start(engine, v[0], v[1], words::part(given, 0, v[2])),
-        _ => record::refused(0, r),
+        TAGSTART => numbered::outcome(
+            record::no_record(),
+            tag::start(engine, v[0], v[1], words::part(given, 0, v[2])),
+        ),
+        _ => Outcome {
+            number: 0,
+            count: 0,
+            next: r,
+        },
     }
 }

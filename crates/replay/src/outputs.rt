@@ -36,9 +36,9 @@ fn call(
 ) -> u32 {
     match kind {
         // close LAST E SIZE
-        CLOSE => close::close(engine, r, (v[0] % 256) as u8, v[1], output),
+        CLOSE => numbered::answer(close::close(engine, r, (v[0] % 256) as u8, v[1], output)),
         // whole W N BYTES LAST E SIZE
-        WHOLE => whole::whole(
+        WHOLE => numbered::answer(whole::whole(
             engine,
             v[0],
             v[1],
@@ -46,22 +46,32 @@ fn call(
             (v[3] % 256) as u8,
             v[4],
             output,
-        ),
+        )),
         // forward W BYTES BYTES
-        FORWARD => block_call::forward(engine, v[0], output, words::part(given, 0, v[2])),
+        FORWARD => numbered::answer(block_call::forward(
+            engine,
+            v[0],
+            output,
+            words::part(given, 0, v[2]),
+        )),
         // backward W BYTES BYTES
-        BACKWARD => block_call::backward(engine, v[0], output, words::part(given, 0, v[2])),
+        BACKWARD => numbered::answer(block_call::backward(
+            engine,
+            v[0],
+            output,
+            words::part(given, 0, v[2]),
+        )),
         // tag W N KEY MESSAGE SIZE
-        TAG => tag::tag(
+        TAG => numbered::answer(tag::tag(
             engine,
             v[0],
             v[1],
             words::part(given, 0, v[2]),
             words::part(given, v[2], v[3]),
             output,
-        ),
+        )),
         // tagfinish KEY SIZE
-        TAGFINISH => tag::finish(engine, r, words::part(given, 0, v[0]), output),
+        TAGFINISH => numbered::answer(tag::finish(engine, r, words::part(given, 0, v[0]), output)),
         _ => 0,
     }
 }

@@ -82,11 +82,21 @@ fn call(
 ) -> Outcome {
     match kind {
         // appendroll BYTES
-        APPENDROLL => append_roll::append_roll(engine, r, words::part(given, 0, v[0]), roll),
+        APPENDROLL => numbered::outcome(
+            r,
+            append_roll::append_roll(engine, r, words::part(given, 0, v[0]), roll),
+        ),
         // rewindroll KEEP BYTES
-        REWINDROLL => rewind_roll::rewind_roll(engine, r, v[0], words::part(given, 0, v[1]), roll),
+        REWINDROLL => numbered::outcome(
+            r,
+            rewind_roll::rewind_roll(engine, r, v[0], words::part(given, 0, v[1]), roll),
+        ),
         // endroll KEEP
-        ENDROLL => rewind_roll::end_roll(engine, r, v[0], roll),
-        _ => record::refused(0, r),
+        ENDROLL => numbered::outcome(r, rewind_roll::end_roll(engine, r, v[0], roll)),
+        _ => Outcome {
+            number: 0,
+            count: 0,
+            next: r,
+        },
     }
 }

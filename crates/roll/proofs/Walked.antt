@@ -12,6 +12,7 @@ use lib.Dec.{eqb}
 use lib.ListN.{length, take, set, replicate, length-append, length-replicate, length-set, get_or-replicate, get_or-eq_default}
 use lib.Seq.{take-suc, take_all, length-take-le, get_or-set_same, get_or-set_other, get_or_at}
 use borrow.Author.Tests.{eq-eqb, ne_eqb}
+use Rattle.std.specs.Prelude.{Option, Some, None}
 use Rattle.lsh.specs.Tabulate.{at}
 use Rattle.lsh.specs.WordSize.{WordSize}
 use Rattle.lsh.specs.Block.{Chain}
@@ -24,7 +25,7 @@ use Rattle.checkpoints.specs.Slots.{most_slots, slot_count, is_roll_length}
 use Rattle.checkpoints.specs.Members.{member, repeats, all_up_to}
 use Rattle.checkpoints.specs.Roll.{next_index, links, is_roll}
 use Rattle.checkpoints.specs.Checkpoints.{lead_to, taken, inserted}
-use Rattle.roll.specs.Traversal.{marked, not_a_roll, traversal_of}
+use Rattle.roll.specs.Traversal.{marked, traversal_of}
 use Rattle.checkpoints.proofs.Members.{eqb-equivalence, member-at, member-cases, repeats-again, distinct-few, all-up-to}
 use Rattle.checkpoints.proofs.Traversals.{visited-first, visited-next}
 use Rattle.checkpoints.proofs.Form.{sized, Linked, linked, links-some}
@@ -100,11 +101,11 @@ module _ (z : WordSize) (s : List ℕ) where
         within = λ x h. absurd (false≢true h);
       }
 
-  pub not-roll : (Linked z s → ⊥) → not_a_roll ≡ traversal_of z s
+  pub not-roll : (Linked z s → ⊥) → None ≡ traversal_of z s
   unfolding traversal_of
   not-roll never = go (is_roll z s) refl
     where
-      go : (b : Bool) → is_roll z s ≡ b → not_a_roll ≡ traversal_of z s
+      go : (b : Bool) → is_roll z s ≡ b → None ≡ traversal_of z s
       go true e = absurd (never (linked z s e))
       go false e = rw e
 
@@ -120,11 +121,11 @@ module _ (z : WordSize) (s : List ℕ) where
     is-link ne = ap (λ (x : ℕ). member x L) w.here ∙ member-at L count (some_left ne)
 
     -- an index beyond the slots
-    pub walked-beyond : (i ≡ 0 → ⊥) → k < i → not_a_roll ≡ traversal_of z s
+    pub walked-beyond : (i ≡ 0 → ⊥) → k < i → None ≡ traversal_of z s
     walked-beyond ne beyond = not-roll (λ h. omega (arith, (h.within i (is-link ne)).1))
 
     -- a slot visited twice
-    pub walked-twice : (i ≡ 0 → ⊥) → i ≤ k → (at marks i ≡ 0 → ⊥) → not_a_roll ≡ traversal_of z s
+    pub walked-twice : (i ≡ 0 → ⊥) → i ≤ k → (at marks i ≡ 0 → ⊥) → None ≡ traversal_of z s
     walked-twice ne le set_is =
         let in-marks : i ≤ most_slots = omega (arith, (sized z s right).most) in
         let again : member i (take count L) ≡ true =
@@ -198,37 +199,44 @@ module _ (z : WordSize) (s : List ℕ) where
           rw (right, u, d)
 
       pub walked_all : (slots : ℕ) → slots ≡ k
-          → ◌≡◌ {A = Traversal} (record { form = true; slots = slots; count = count; last = last; marks = marks }) (traversal_of z s)
+          → ◌≡◌ {A = Option Traversal} (Some (record { slots = slots; count = count; last = last; marks = marks })) (traversal_of z s)
       unfolding traversal_of lead_to
       walked_all slots e =
           rw is-roll
-          (λ d. record {
-            form = true;
+          (λ d. Some (record {
             slots = e d;
             count = all-visited d;
             last = (w.end ∙ ap (at (0 ∷ L)) all-visited) d;
             marks = (w.links ∙ ap marked whole) d;
-          })
+          }))
 
 -- what is known of a roll, and of one with a checkpoint more
-module _ (z : WordSize) (ok : Octets z) (s : List ℕ) (is : is_roll z s ≡ true) where
+module _ (z : WordSize) (s : List ℕ) where
   abbrev pub known : Traversal
   known =
       record {
-        form = true;
         slots = slot_count z (length s);
         count = length (links z s);
         last = lead_to z s (length (links z s));
         marks = marked (links z s);
       }
 
-  pub traversal-is : traversal_of z s ≡ known
-  unfolding traversal_of
-  traversal-is = rw is
+  pub record Known (y : Traversal) : Type 0 where
+    pub is : is_roll z s ≡ true
+    pub traversal : y ≡ known
 
+  pub known-roll : {y : Traversal} → Some y ≡ traversal_of z s → Known y
+  unfolding traversal_of
+  known-roll {y} walked = go (is_roll z s) refl walked
+    where
+      go : (b : Bool) → is_roll z s ≡ b → Some y ≡ cond b (Some known) None → Known y
+      go true e some = record { is = e; traversal = cc }
+      go false e some = cc
+
+module _ (z : WordSize) (ok : Octets z) (s : List ℕ) (is : is_roll z s ≡ true) where
   traversal-inserted : (c : Checkpoint) → Chain z c.chain → length (links z s) < slot_count z (length s)
-      → ◌≡◌ {A = Traversal}
-      (record { form = true; slots = slot_count z (length s); count = length (links z s) + 1; last = taken z s; marks = set (marked (links z s)) (taken z s) 1 })
+      → ◌≡◌ {A = Option Traversal}
+      (Some (record { slots = slot_count z (length s); count = length (links z s) + 1; last = taken z s; marks = set (marked (links z s)) (taken z s) 1 }))
       (traversal_of z (inserted z c s))
   unfolding traversal_of lead_to
   traversal-inserted c chain room =
@@ -238,43 +246,18 @@ module _ (z : WordSize) (ok : Octets z) (s : List ℕ) (is : is_roll z s ≡ tru
       let more : length (l ++ i ∷ []) ≡ length l + 1 = length-append l (i ∷ []) in
       let le : i ≤ most_slots = omega (arith, (taken-within z ok s is room c chain).1, (sized z s (linked z s is).right).most) in
       rw (inserted-roll z ok s is room c chain, e, inserted-size z ok s is room c chain, more)
-      (λ d. record {
-        form = true;
+      (λ d. Some (record {
         slots = slot_count z (length s);
         count = length l + 1;
         last = sym (ap (at (0 ∷ l ++ i ∷ [])) (add-one (length l)) ∙ get_or_at l i [] 0 (length l) refl) d;
         marks = marked_more l i le d;
-      })
+      }))
 
-  pub traversal-more : (c : Checkpoint) → Chain z c.chain → length (links z s) < slot_count z (length s) → {y : Traversal} {i : ℕ} → y ≡ known → i ≡ taken z s
-      → ◌≡◌ {A = Traversal} (record { form = y.form; slots = y.slots; count = y.count + 1; last = i; marks = set y.marks i 1 }) (traversal_of z (inserted z c s))
+  pub traversal-more : (c : Checkpoint) → Chain z c.chain → length (links z s) < slot_count z (length s) → {y : Traversal} {i : ℕ} → y ≡ known z s → i ≡ taken z s
+      → ◌≡◌ {A = Option Traversal} (Some (record { slots = y.slots; count = y.count + 1; last = i; marks = set y.marks i 1 })) (traversal_of z (inserted z c s))
   traversal-more c chain room {y} {i} is chosen =
-      ap₂ (λ (x : Traversal) (j : ℕ). record { form = x.form; slots = x.slots; count = x.count + 1; last = j; marks = set x.marks j 1 }) is chosen
+      ap₂ (λ (x : Traversal) (j : ℕ). Some (record { slots = x.slots; count = x.count + 1; last = j; marks = set x.marks j 1 })) is chosen
       ∙ traversal-inserted c chain room
-
--- what is known of any buffer: whether it is a roll, and how many links a roll has
-module _ (z : WordSize) (s : List ℕ) {y : Traversal} (known : y ≡ traversal_of z s) where
-  pub traversal-form : y.form ≡ is_roll z s
-  unfolding traversal_of not_a_roll
-  traversal-form = ap (λ (x : Traversal). x.form) known ∙ go (is_roll z s)
-    where
-      go : (b : Bool) → (cond b (record {
-        form = true;
-        slots = slot_count z (length s);
-        count = length (links z s);
-        last = lead_to z s (length (links z s));
-        marks = marked (links z s);
-      }) not_a_roll).form ≡ b
-      go true = refl
-      go false = refl
-
-  pub traversal-count : is_roll z s ≡ true → y.count ≡ length (links z s)
-  unfolding traversal_of
-  traversal-count is = ap (λ (x : Traversal). x.count) known ∙ rw is
-
-  pub traversal-slots : is_roll z s ≡ true → y.slots ≡ slot_count z (length s)
-  unfolding traversal_of
-  traversal-slots is = ap (λ (x : Traversal). x.slots) known ∙ rw is
 
 -- each slot on the walk leads to the next
 pub lead-next : (z : WordSize) (s : List ℕ) → Linked z s → (m : ℕ) → m < length (links z s) → next_index z s (lead_to z s m) ≡ lead_to z s (m + 1)

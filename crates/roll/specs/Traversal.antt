@@ -1,7 +1,7 @@
--- What the code keeps of a roll while it inserts checkpoints: its form, how many slots it has and how many of them are linked, the last link, and
--- a mark for each linked slot.
+-- What the code keeps of a roll while it inserts checkpoints: how many slots it has and how many of them are linked, the last link, and a mark for
+-- each linked slot.
 -- Assumes nothing.
-use Rattle.std.specs.Prelude.{true, false, cond, List, ℕ, ◌+◌, length, replicate}
+use Rattle.std.specs.Prelude.{cond, Option, Some, None, List, ℕ, ◌+◌, length}
 use Rattle.lsh.specs.Tabulate.{tabulate}
 use Rattle.lsh.specs.WordSize.{WordSize}
 use Rattle.roll.specs.declared.Traversal.{Traversal}
@@ -14,17 +14,14 @@ use Rattle.checkpoints.specs.Checkpoints.{lead_to}
 unfoldable pub marked : List ℕ → List ℕ
 marked l = tabulate (most_slots + 1) (λ i. cond (member i l) 1 0)
 
-unfoldable pub not_a_roll : Traversal
-not_a_roll = record { form = false; slots = 0; count = 0; last = 0; marks = replicate (most_slots + 1) 0 }
-
-unfoldable pub traversal_of : WordSize → List ℕ → Traversal
+-- nothing of a buffer that is no roll
+unfoldable pub traversal_of : WordSize → List ℕ → Option Traversal
 traversal_of z s =
     cond (is_roll z s)
-    (record {
-      form = true;
+    (Some (record {
       slots = slot_count z (length s);
       count = length (links z s);
       last = lead_to z s (length (links z s));
       marks = marked (links z s);
-    })
-    not_a_roll
+    }))
+    None

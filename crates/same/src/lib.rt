@@ -7,92 +7,60 @@ ghost use Rattle.receipts.specs.Receipt.{receipt_bytes};
 ghost use Rattle.receipts.specs.Parts.{digest_length_of, bit_length_of};
 ghost use Rattle.receipts.specs.WellFormed.{unused_zero, zero_after, well_formed, IsReceipt};
 ghost use Rattle.receipts.specs.Same.{same_receipt, same_call};
+ghost use Rattle.receipts.specs.Numbered.{sameness};
 
+use answers::Refusal;
 use finalization::{DIGEST, LENGTH, MOST_BITS, RECEIPT};
-use receipts::Sameness;
 
 // Whether two receipts are the same.
-pub fn same(a: &[u8], b: &[u8]) -> Sameness
-    ensures { result ≡ same_call a.now b.now }
+#[tactic(auto, unfolding(receipts::specs::Receipt::receipt_bytes, receipts::specs::Same::same_call, receipts::specs::Same::is_receipt_long))]
+pub fn same(a: &[u8], b: &[u8]) -> Result<bool, Refusal>
+    ensures { sameness result ≡ same_call a.now b.now }
 {
-    if a.len() != RECEIPT {
-        return Sameness {
-            number: 13,
-            same: false,
-        };
+    if a.len() != RECEIPT || b.len() != RECEIPT {
+        return Err(Refusal::NoReceipts);
     }
-    if b.len() != RECEIPT {
-        return Sameness {
-            number: 13,
-            same: false,
-        };
+    if !is_well_formed(a) || !is_well_formed(b) {
+        return Err(Refusal::Malformed);
     }
-    if !is_well_formed(a) {
-        return Sameness {
-            number: 14,
-            same: false,
-        };
-    }
-    if !is_well_formed(b) {
-        return Sameness {
-            number: 14,
-            same: false,
-        };
-    }
-    let yes = all_agree(a, b);
-    Sameness {
-        number: 0,
-        same: yes,
-    }
+    Ok(all_agree(a, b))
 }
 
-// Whether two well-formed receipts are the same: all their bytes agree. No byte ends the loop early, so that the compiler compares many at
-// once.
+// Whether two well-formed receipts are the same: all their bytes agree.
 pub fn all_agree(a: &[u8], b: &[u8]) -> bool
     requires { IsReceipt a.now × IsReceipt b.now }
     ensures { result ≡ same_receipt a.now b.now }
 {
-    let mut agree = true;
-    for i in 0..RECEIPT {
-        agree = agree & (a[i] == b[i]);
-    }
-    agree
+    buffers::equal_bytes(a, b)
 }
 
 // Whether as many bytes as a receipt has are a receipt that could have been written.
+#[tactic(auto, unfolding(receipts::specs::Receipt::receipt_bytes, receipts::specs::WellFormed::well_formed, receipts::specs::Parts::word_size_of, receipts::specs::Ending::most_bits, limits::specs::Limits::limit))]
 pub fn is_well_formed(r: &[u8]) -> bool
     requires { length r.now ≡ receipt_bytes }
     ensures { result ≡ well_formed r.now }
 {
-    let w = r[0] as u64;
-    if !runs::is_word_size(w) {
-        return false;
-    }
-    if r[1] != 0 {
-        return false;
-    }
+    let w = u64::from(r[0]);
     let n = digest_length_of(r);
-    if !runs::is_digest_length(w, n) {
-        return false;
-    }
-    if !is_unused_zero(r, n) {
-        return false;
-    }
-    if !is_zero_after(r, n) {
-        return false;
-    }
-    bit_length_of(r) <= MOST_BITS
+    runs::is_word_size(w)
+        && r[1] == 0
+        && runs::is_digest_length(w, n)
+        && is_unused_zero(r, n)
+        && is_zero_after(r, n)
+        && bit_length_of(r) <= MOST_BITS
 }
 
 // n of a receipt.
+#[tactic(auto, unfolding(receipts::specs::Receipt::receipt_bytes, receipts::specs::Parts::digest_length_of, lsh::specs::Bytes::word_at))]
 pub fn digest_length_of(r: &[u8]) -> u64
     requires { length r.now ≡ receipt_bytes }
     ensures { result ≡ digest_length_of r.now }
 {
-    r[2] as u64 + 256 * r[3] as u64
+    u64::from(r[2]) + 256 * u64::from(r[3])
 }
 
 // The length in bits of the message that a receipt is of.
+#[tactic(auto, unfolding(receipts::specs::Receipt::receipt_bytes, receipts::specs::Parts::bit_length_of))]
 pub fn bit_length_of(r: &[u8]) -> u64
     requires { length r.now ≡ receipt_bytes }
     ensures { result ≡ bit_length_of r.now }
@@ -101,18 +69,16 @@ pub fn bit_length_of(r: &[u8]) -> u64
 }
 
 // Whether the bits of the digest's last byte that it does not use are 0.
+#[tactic(auto, unfolding(receipts::specs::Receipt::receipt_bytes, receipts::specs::WellFormed::unused_zero))]
 fn is_unused_zero(r: &[u8], n: u64) -> bool
     requires { (length r.now ≡ receipt_bytes) × (n ≤ longest_digest 64) }
     ensures { result ≡ unused_zero r.now n }
 {
-    if n % 8 == 0 {
-        return true;
-    }
-    let last = DIGEST + (n / 8) as usize;
-    finalization::low_bits(r[last], (n % 8) as u32) == 0
+    n % 8 == 0 || finalization::low_bits(r[DIGEST + (n / 8) as usize], (n % 8) as u32) == 0
 }
 
 // Whether each byte between the digest and the length is 0.
+#[tactic(auto, unfolding(receipts::specs::Receipt::receipt_bytes, receipts::specs::WellFormed::zero_after))]
 fn is_zero_after(r: &[u8], n: u64) -> bool
     requires { (length r.now ≡ receipt_bytes) × (n ≤ longest_digest 64) }
     ensures { result ≡ zero_after r.now n }

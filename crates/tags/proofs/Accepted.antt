@@ -1,18 +1,16 @@
 -- What an answer says of the calls with a key.
 -- Assumes nothing.
-use mathlib.Core.Path.{◌≡◌, refl, sym, ap, ◌∙◌}
-use mathlib.Core.Bool.{Bool, true, false, not, ◌||◌}
+use mathlib.Core.Path.{◌≡◌, refl, sym, ◌∙◌}
+use mathlib.Core.Bool.{true, false, not, ◌||◌}
 use mathlib.Core.List.{[], ◌∷◌}
-use Prim.Native.Nat.{ℕ, ◌+◌, ◌-◌, ◌%◌, ◌≤◌}
-use native.Mathlib.Omega.{arith}
-use borrow.Author.Tests.{eqb-true, lt-ltb, le-ltb, ltb-true, ltb-false, not-false}
+use Prim.Native.Nat.{ℕ, ◌+◌, ◌%◌, ◌≤◌}
+use borrow.Author.Tests.{eqb-true, ltb-false, not-false}
 use lib.Dec.{ltb}
 use Rattle.lsh.specs.WordSize.{is_word_size, size_of, block_bytes}
 use Rattle.answers.proofs.Tests.{test, passed}
 use Rattle.answers.proofs.First.{both-passed}
 use Rattle.limits.specs.Limits.{is_digest_length, limit}
 use Rattle.lsh.proofs.Tests.{or-false}
-use Rattle.limits.proofs.Limits.{block-most}
 use Rattle.orders.specs.declared.Record.{Record}
 use Rattle.orders.specs.Record.{sound}
 use Rattle.tags.specs.KeyAnswer.{is_whole_bytes, tag_bytes, key_answer, room_answer, tag_answer, finish_answer}
@@ -24,22 +22,6 @@ pub record Keyed (w n key_length len : ℕ) : Type 0 where
   pub bytewise : n % 8 ≡ 0
   pub short : key_length ≤ limit
   pub within : block_bytes (size_of w) + len ≤ limit
-
--- the test of a sum, as the code makes it
-over : (l b m : ℕ) → b ≤ l → ltb (l - b) m ≡ ltb l (b + m)
-over l b m le = go (ltb (l - b) m) refl
-  where
-    go : (t : Bool) → ltb (l - b) m ≡ t → ltb (l - b) m ≡ ltb l (b + m)
-    go true is = is ∙ sym (lt-ltb l (b + m) (omega (arith, ltb-true (l - b) m is)))
-    go false is = is ∙ sym (le-ltb l (b + m) (omega (arith, ltb-false (l - b) m is)))
-
-pub tests-length : (w key_length len : ℕ) {b : ℕ} {t : Bool} → b ≡ block_bytes (size_of w) → (ltb limit key_length || ltb (limit - b) len) ≡ t
-    → (ltb limit key_length || ltb limit (block_bytes (size_of w) + len)) ≡ t
-unfolding limit
-tests-length w key_length len {b} size is =
-    ap (λ (x : Bool). ltb limit key_length || x)
-    (sym (over limit (block_bytes (size_of w)) len (omega (arith, block-most w))) ∙ ap (λ (k : ℕ). ltb (limit - k) len) (sym size))
-    ∙ is
 
 bytewise-is : (n : ℕ) → is_whole_bytes n ≡ true → n % 8 ≡ 0
 unfolding is_whole_bytes

@@ -14,16 +14,16 @@ words z = search rules
 long : (z : Start) → length z.args.r.held ≡ longest_block
 long z = search rules
 
-pub absorb-t-requires : goal.absorb-t-requires
-absorb-t-requires c = let z = (goal.at.absorb-t-requires c).Start in
+pub absorb-count-requires : goal.absorb-count-requires
+absorb-count-requires c = let z = (goal.at.absorb-count-requires c).Start in
     let s = sounds z.args.r z.requires.0 in
     (s.word, chain-is _ _ s.word (words z) s.below)
 
-pub overflow_add-r : goal.overflow_add-r
+pub overflow_add-result : goal.overflow_add-result
 unfolding limit
-overflow_add-r c = record { fits = omega (arith, c.requires.1) }
+overflow_add-result c = record { fits = omega (arith, c.requires.1) }
 
 pub returns : goal.returns
 returns c = let z = (goal.at.returns c).Start in
-    let t = c.absorb-t in
+    let t = c.absorb-count in
     rw (t.ensures.0, t.ensures.1, t.ensures.2) (sym (even z.args.r z.requires.0 (long z) z.args.piece.now z.requires.2))

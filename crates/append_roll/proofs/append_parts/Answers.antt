@@ -13,7 +13,6 @@ use Rattle.orders.specs.Record.{held_of, sound}
 use Rattle.orders.proofs.Sound.{Sound, sounds}
 use Rattle.orders.specs.Append.{appended}
 use Rattle.checkpoints.specs.Roll.{checkpoints}
-use Rattle.checkpoints.proofs.Form.{roll-of}
 use Rattle.checkpoints.proofs.Spacing.{step}
 use Rattle.checkpoints.proofs.AppendAnswers.{Accepted, accepted, goal-of, accepted-call}
 use Rattle.append_roll.proofs.Parts.{Entry, inserted-at, due-after, so-far-sound, none-reached, first-room, first-parted, first_rest, chain-ok, count-few, next-room, parted-more, parted-roll, parted-end, order-there}
@@ -59,11 +58,9 @@ module _ (c : Else-piece-first) where
 
 pub first_part-p-requires : goal.first_part-p-requires
 first_part-p-requires c = let e = (goal.at.first_part-p-requires c).Else-piece-first in
-    let z = begun e in
-    let of = roll-of (R z) (S z) (pass z).roll_of in (
+    let z = begun e in (
       (pass z).sound_record,
       omega (arith, (pass z).within, first-length e, le e),
-      of.0,
       z.requires.1,
       first-room (R z) (P z) (entry z) (first e) (next e) (le e),
     )
@@ -129,7 +126,6 @@ next_part-p-requires c = let i = (goal.at.next_part-p-requires c).In-loop-at in
         reaches_step i,
         (pass z).within,
       ),
-      p.stage.form,
       p.traversal,
       next-room (R z) (P z) (entry z) p (reaches_step i),
     )

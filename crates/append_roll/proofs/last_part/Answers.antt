@@ -40,13 +40,13 @@ module _ (c : After-zero_bytes-held) where
   order_is : order ≡ order_with (held_of [])
   order_is = ap order_with (none-held c.zero_bytes-held.result c.zero_bytes-held.ensures)
 
-pub overflow_add-r : goal.overflow_add-r
+pub overflow_add-order : goal.overflow_add-order
 unfolding limit
-overflow_add-r c = record { fits = omega (arith, c.requires.0) }
+overflow_add-order c = record { fits = omega (arith, c.requires.0) }
 
-pub overflow_add-o : goal.overflow_add-o
+pub overflow_add-result : goal.overflow_add-result
 unfolding limit
-overflow_add-o c = let y = (goal.at.overflow_add-o c).After-zero_bytes-held in
+overflow_add-result c = let y = (goal.at.overflow_add-result c).After-zero_bytes-held in
     let z = at-start y in
     record {
       fits =
@@ -55,17 +55,17 @@ overflow_add-o c = let y = (goal.at.overflow_add-o c).After-zero_bytes-held in
             z.requires.0,
             z.requires.1,
             few-blocks (order y) z.args.part.now,
-            ap (λ (o : Outcome). o.count) c.accepted-o.ensures,
+            ap (λ (o : Outcome). o.count) c.accepted-step.ensures,
           );
     }
 
-pub accepted-o-requires : goal.accepted-o-requires
+pub accepted-step-requires : goal.accepted-step-requires
 unfolding append_accepted
-accepted-o-requires c = ((at-start (goal.at.accepted-o-requires c).After-zero_bytes-held).requires.2 (order (goal.at.accepted-o-requires c).After-zero_bytes-held) (order_is (goal.at.accepted-o-requires c).After-zero_bytes-held), (at-start (goal.at.accepted-o-requires c).After-zero_bytes-held).requires.0)
+accepted-step-requires c = ((at-start (goal.at.accepted-step-requires c).After-zero_bytes-held).requires.2 (order (goal.at.accepted-step-requires c).After-zero_bytes-held) (order_is (goal.at.accepted-step-requires c).After-zero_bytes-held), (at-start (goal.at.accepted-step-requires c).After-zero_bytes-held).requires.0)
 
 pub returns : goal.returns
 unfolding append_accepted
 returns c other is = let y = (goal.at.returns c).After-zero_bytes-held in
     let z = at-start y in
     ap (λ (o : Outcome). record { number = o.number; count = z.args.p.count + o.count; next = o.next })
-    (c.accepted-o.ensures ∙ ap (λ (r : Record). append_accepted r z.args.part.now) (order_is y ∙ sym is))
+    (c.accepted-step.ensures ∙ ap (λ (r : Record). append_accepted r z.args.part.now) (order_is y ∙ sym is))

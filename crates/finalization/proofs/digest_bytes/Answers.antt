@@ -19,6 +19,9 @@ overflow_sub-s c = rw c.low_bits.ensures (mod-le _ _)
 pub bounds-s-last-2 : goal.bounds-s-last-2
 bounds-s-last-2 c = omega (arith, word-most _ c.requires.0)
 
+pub bounds-s-last-3 : goal.bounds-s-last-3
+bounds-s-last-3 c = omega (arith, word-most _ c.requires.0)
+
 pub returns : goal.returns
 returns c = let n = c.args.n in
     let s = c.final_bytes-s.result in

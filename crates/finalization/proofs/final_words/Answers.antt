@@ -1,4 +1,3 @@
-use Prim.Native.Nat.{◌-◌}
 use native.Mathlib.Omega.{arith}
 use Rattle.loops.proofs.Places.{placed-none, filled_more, front-stored}
 use Rattle.finalization.proofs.final_words.Goals as goal

@@ -18,6 +18,6 @@ pub slice_bounds-forward-end : goal.slice_bounds-forward-end
 slice_bounds-forward-end c = sym (length-take-le _ _ (long _ c.args.rest.now c.requires.2 _ c.last_block-block.ensures c.block_bytes-size.ensures))
 
 pub returns : goal.returns
-returns c = c.forward-run.ensures.0
+returns c = c.forward.ensures.0
     ∙ ap (λ (s : List ℕ). forwards (size_of c.args.w) (blocks_of (size_of c.args.w) s) c.args.t)
     (last_block _ c.args.rest.now c.requires.2 _ c.last_block-block.ensures c.block_bytes-size.ensures)

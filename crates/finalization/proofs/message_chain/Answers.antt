@@ -1,23 +1,17 @@
 use mathlib.Core.Path.{◌∙◌}
-use Prim.Native.Nat.{◌*◌, ◌≤◌}
 use native.Mathlib.Omega.{arith}
-use lib.ListN.{length}
 use Rattle.runs.proofs.Rest.{inside, rest-short}
 use Rattle.finalization.proofs.MessageChain.{run-chain, last-run}
 use Rattle.finalization.proofs.message_chain.Goals as goal
-use Rattle.finalization.proofs.message_chain.Goals.{After-struct_known-1}
-
-blocks-in : (c : After-struct_known-1) → c.forward-run.result.count * c.block_bytes.result ≤ length c.args.message.now
-blocks-in c = inside _ c.args.message.now c.forward-run.ensures.1 c.block_bytes.ensures
 
 pub overflow_mul-whole : goal.overflow_mul-whole
-overflow_mul-whole c = record { fits = omega (arith, blocks-in c) }
+overflow_mul-whole c = record { fits = omega (arith, inside _ c.args.message.now c.forward-run.ensures.1 c.block_bytes.ensures) }
 
 pub slice_bounds-last_chain-count : goal.slice_bounds-last_chain-count
-slice_bounds-last_chain-count c = blocks-in c
+slice_bounds-last_chain-count c = inside _ c.args.message.now c.forward-run.ensures.1 c.block_bytes.ensures
 
 pub slice_bounds-last_chain-start : goal.slice_bounds-last_chain-start
-slice_bounds-last_chain-start c = blocks-in c
+slice_bounds-last_chain-start c = inside _ c.args.message.now c.forward-run.ensures.1 c.block_bytes.ensures
 
 pub last_chain-requires : goal.last_chain-requires
 last_chain-requires c = (

@@ -29,16 +29,16 @@ digest-size c = length-take-le _ _ (inside c)
 
 -- zeros in the places of a receipt
 cleared : (c : After-fill)
-    → c.fill.new.output ++ drop receipt_bytes c.args.output.now
+    → c.fill.new.self ++ drop receipt_bytes c.args.output.now
     ≡ replicate receipt_bytes 0 ++ drop receipt_bytes c.args.output.now
 unfolding receipt_bytes
 cleared c =
     let m = c.args.output.now in
-    ap (λ (s : List ℕ). s ++ drop receipt_bytes m) (c.fill.ensures ∙ ap (λ (k : ℕ). replicate {A = ℕ} k 0) (length-take-le receipt_bytes m c.requires.3))
+    ap (λ (s : List ℕ). s ++ drop receipt_bytes m) (c.fill.ensures.after (λ y e. e) ∙ ap (λ (k : ℕ). replicate {A = ℕ} k 0) (length-take-le receipt_bytes m c.requires.3))
 
 -- the output is as long as it was
 same_length : (c : After-fill)
-    → length (c.fill.new.output ++ drop receipt_bytes c.args.output.now) ≡ length c.args.output.now
+    → length (c.fill.new.self ++ drop receipt_bytes c.args.output.now) ≡ length c.args.output.now
 same_length c =
     let m = c.args.output.now in
     ap length (cleared c)

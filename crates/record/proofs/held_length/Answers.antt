@@ -1,10 +1,5 @@
-use mathlib.Core.Path.{ap}
-use Prim.Native.Nat.{ℕ, ◌%◌}
 use Rattle.lsh.proofs.Figures.{block-some}
 use Rattle.record.proofs.held_length.Goals as goal
 
 pub nonzero_rem-result : goal.nonzero_rem-result
 nonzero_rem-result c = rw c.block_bytes.ensures (block-some _)
-
-pub returns : goal.returns
-returns c = ap (λ (b : ℕ). c.args.total % b) c.block_bytes.ensures

@@ -1,18 +1,23 @@
-use mathlib.Core.Path.{refl}
-use Prim.Native.Nat.{◌-◌, zero-le}
-use native.Mathlib.Omega.{arith}
-use borrow.Author.Rules.{rules}
-use Rattle.lists.proofs.Lists.{zeros-more, zeros-all}
+use mathlib.Core.Path.{◌≡◌, ◌∙◌}
+use mathlib.Core.Bool.{Bool, true, ◌&&◌, and_assoc, and_comm}
+use mathlib.Core.List.{List, [], ◌∷◌}
+use Prim.Native.Nat.{ℕ}
+use lib.Dec.{eqb}
+use Rattle.std.proofs.Common.{rules, tests}
+use Rattle.std.specs.List.{fold}
+use Rattle.std.proofs.lemmas.Iterator.{YieldsList-from_slice}
+use Rattle.std.proofs.lemmas.Iterator.Consumers.{fold_from_yields_List}
+use Rattle.lists.specs.Lists.{all_zero}
 use Rattle.record.proofs.words_zero.Goals as goal
 
-pub loop-i-init : goal.loop-i-init
-loop-i-init c = (refl, zero-le, search rules)
+abbrev zero_so_far : Bool → ℕ → Bool
+zero_so_far zero x = zero && eqb x 0
 
-pub offset_bounds-c-i : goal.offset_bounds-c-i
-offset_bounds-c-i c = record { fits = omega arith }
-
-pub loop-i-preserved : goal.loop-i-preserved
-loop-i-preserved c = (zeros-more c.args.t 0 c.loop-i.zero c.loop-i.i c.loop-i.invariant.0 (omega arith), omega arith, c.loop-i.invariant.2)
+fold-zero : (b : Bool) (s : List ℕ) → fold zero_so_far b s ≡ (b && all_zero s)
+fold-zero b [] = and_comm true b
+fold-zero b (x ∷ s) = fold-zero (b && eqb x 0) s ∙ and_assoc b (eqb x 0) (all_zero s)
 
 pub returns : goal.returns
-returns c = zeros-all c.args.t 0 c.loop-i.zero c.loop-i.i c.loop-i.invariant.0 (omega arith)
+returns c =
+    fold_from_yields_List _ zero_so_far true c.fold.result c.fold.ensures.ran (YieldsList-from_slice c.args.t cc) (λ a x b q k. search (rules, tests))
+    ∙ fold-zero true c.args.t

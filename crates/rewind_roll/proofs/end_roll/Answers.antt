@@ -1,17 +1,27 @@
--- `rewind_roll::end_roll` visits its contract. Assumes nothing.
-use mathlib.Core.Path.{ap, ◌∙◌}
-use Rattle.orders.specs.declared.Outcome.{Outcome}
-use Rattle.checkpoints.specs.RewindRoll.{cut_roll}
+use mathlib.Core.Path.{sym, ap, ◌∙◌}
+use mathlib.Core.Bool.{Bool, not}
+use Rattle.roll.specs.declared.Traversal.{Traversal}
+use Rattle.checkpoints.specs.Roll.{roll_answer}
 use Rattle.checkpoints.specs.EndRoll.{end_roll_call, ended_roll}
-use Rattle.checkpoints.proofs.Rewinding.{accepted-roll}
+use Rattle.roll.proofs.Walked.{known-roll}
+use Rattle.rewind_roll.proofs.After.{refused-first, refused-rest, accepted}
 use Rattle.rewind_roll.proofs.end_roll.Goals as goal
 
-pub cut_roll-requires : goal.cut_roll-requires
+pub returns-in_err-known : goal.returns-in_err-known
 unfolding end_roll_call ended_roll
-cut_roll-requires c = let y = c.walk-y.ensures in
-    (y, accepted-roll _ _ _ _ (c.ended-o.ensures _ y))
+returns-in_err-known c = let begun = ap (λ (b : Bool). roll_answer c.args.r b c.args.roll.now) (ap not c.is_begun.ensures) in
+    refused-first _ _ _ _ _ _ c.from_residual.ensures.1 (c.in_err-known.ensures.0 ∙ begun)
+
+pub returns-in_err-step : goal.returns-in_err-step
+unfolding end_roll_call ended_roll
+returns-in_err-step c = let begun = ap (λ (b : Bool). roll_answer c.args.r b c.args.roll.now) (ap not c.is_begun.ensures) in
+    refused-rest _ _ _ _ (sym begun ∙ sym c.in_ok-known.ensures.0) _ _ c.from_residual-in_err-step.ensures.1 c.in_err-step.ensures
+
+pub cut-requires : goal.cut-requires
+cut-requires c = let k = known-roll _ _ c.in_ok-known.ensures.1.2 in
+    (k.is, ap (λ (y : Traversal). y.count) k.traversal)
 
 pub returns : goal.returns
 unfolding end_roll_call ended_roll
-returns c = let is = c.ended-o.ensures _ c.walk-y.ensures in
-    (is, c.cut_roll.ensures ∙ ap (λ (x : Outcome). cut_roll c.args.r.w x c.args.roll.now) is)
+returns c = let begun = ap (λ (b : Bool). roll_answer c.args.r b c.args.roll.now) (ap not c.is_begun.ensures) in
+    accepted _ _ _ _ (sym begun ∙ sym c.in_ok-known.ensures.0) _ c.in_ok-step.ensures c.cut.ensures

@@ -5,6 +5,7 @@ use Prim.Native.Nat.{ℕ, ◌≤◌, ◌<◌}
 use native.Mathlib.Nat.{le_refl}
 use native.Mathlib.Omega.{arith}
 use lib.ListN.{length}
+use Rattle.std.specs.Prelude.{Some}
 use Rattle.lsh.specs.WordSize.{WordSize, size_of}
 use Rattle.lsh.proofs.Bytes.{Octets, octets}
 use Rattle.roll.specs.declared.Traversal.{Traversal}
@@ -16,7 +17,7 @@ use Rattle.roll.specs.Traversal.{traversal_of}
 use Rattle.checkpoints.proofs.Form.{Linked, linked, Sized, sized}
 use Rattle.checkpoints.proofs.Shown.{lead-in, taken-within}
 use Rattle.checkpoints.proofs.Writes.{slot-size}
-use Rattle.roll.proofs.Walked.{known, traversal-is, traversal-more}
+use Rattle.roll.proofs.Walked.{known, Known, known-roll, traversal-more}
 use Rattle.roll.proofs.insert.Goals as goal
 use Rattle.roll.proofs.insert.Goals.{After-free_slot-i, After-put_slot, Start}
 
@@ -30,14 +31,17 @@ module _ (z : Start) where
   ok : Octets Z
   ok = octets z.args.w
 
+  walked : Known Z S z.args.y
+  walked = known-roll Z S z.requires.2
+
   have : Linked Z S
-  have = linked Z S z.requires.2
+  have = linked Z S walked.is
 
   sizes : Sized Z S
   sizes = sized Z S have.right
 
-  traversal : z.args.y ≡ known Z ok S z.requires.2
-  traversal = z.requires.3 ∙ traversal-is Z ok S z.requires.2
+  traversal : z.args.y ≡ known Z S
+  traversal = walked.traversal
 
   slots : z.args.y.slots ≡ slot_count Z (length S)
   slots = ap (λ (y : Traversal). y.slots) traversal
@@ -49,10 +53,10 @@ module _ (z : Start) where
   last = ap (λ (y : Traversal). y.last) traversal
 
   room : length (links Z S) < slot_count Z (length S)
-  room = omega (arith, z.requires.4, slots, count)
+  room = omega (arith, z.requires.3, slots, count)
 
   within : (0 < taken Z S) × (taken Z S ≤ slot_count Z (length S))
-  within = taken-within Z ok S z.requires.2 room (record { number = 0; chain = z.args.t }) z.requires.1
+  within = taken-within Z ok S walked.is room (record { number = 0; chain = z.args.t }) z.requires.1
 
 free-is : (c : After-free_slot-i) → c.free_slot-i.result ≡ taken (Z (goal.at.After-free_slot-i c).Start) (S (goal.at.After-free_slot-i c).Start)
 unfolding taken
@@ -82,7 +86,7 @@ returns c = let f = (goal.at.returns c).After-free_slot-i in
     let bytes : (k : ℕ) → c.put_index.new.roll ≡ inserted (Z z) (record { number = k; chain = z.args.t }) (S z) =
     λ k. c.put_index.ensures ∙ inserted-is (Z z) (S z) z.args.t k c.put_slot.ensures (last z) (free-is f) in (
       bytes,
-      c.with_link.ensures ∙ traversal-more (Z z) (ok z) (S z) z.requires.2 (record { number = 0; chain = z.args.t }) z.requires.1 (room z) (traversal z) (free-is f) ∙ ap (traversal_of (Z z)) (sym (bytes 0)),
+      ap Some c.with_link.ensures ∙ traversal-more (Z z) (ok z) (S z) (walked z).is (record { number = 0; chain = z.args.t }) z.requires.1 (room z) (traversal z) (free-is f) ∙ ap (traversal_of (Z z)) (sym (bytes 0)),
     )
 
 pub free_slot-i-requires : goal.free_slot-i-requires
@@ -100,7 +104,7 @@ put_index-requires c = let s = (goal.at.put_index-requires c).After-put_slot in
         arith,
         last z,
         ap (slot_count (Z z)) (written s),
-        lead-in (Z z) (ok z) (S z) z.requires.2 (length (links (Z z) (S z))) (le_refl (length (links (Z z) (S z)))),
+        lead-in (Z z) (ok z) (S z) (walked z).is (length (links (Z z) (S z))) (le_refl (length (links (Z z) (S z)))),
       ),
       omega (arith, (free_in f).1, (sizes z).most),
     )

@@ -40,11 +40,11 @@ returns c = rw (low c.args.next, high c.args.next c.requires.2, add-one c.index_
 pub index_place-a-requires : goal.index_place-a-requires
 index_place-a-requires c = omega (arith, c.requires.1, (sizes (goal.at.index_place-a-requires c).Start).most)
 
-pub overflow_add-b : goal.overflow_add-b
-overflow_add-b c = record { fits = omega (arith, inside c) }
+pub overflow_add-roll : goal.overflow_add-roll
+overflow_add-roll c = record { fits = omega (arith, inside c) }
 
 pub bounds-roll-a : goal.bounds-roll-a
 bounds-roll-a c = omega (arith, inside c)
 
-pub bounds-roll-b : goal.bounds-roll-b
-bounds-roll-b c = simp length-set (omega (arith, inside c))
+pub bounds-roll-a-2 : goal.bounds-roll-a-2
+bounds-roll-a-2 c = simp length-set (omega (arith, inside c))

@@ -1,5 +1,5 @@
-use mathlib.Core.Path.{◌∙◌}
-use Prim.Native.Nat.{◌-◌, ◌≤◌, ◌<◌, zero-le}
+use mathlib.Core.Path.{refl}
+use Prim.Native.Nat.{◌≤◌, ◌<◌, zero-le}
 use native.Mathlib.Omega.{arith}
 use lib.ListN.{length}
 use Rattle.lsh.specs.WordSize.{size_of}
@@ -27,31 +27,21 @@ module _ (c : Else-marks-i-ne0) where
   few : at_head.loop-i.count < slot_count (size_of at-start.args.w) (length at-start.args.roll.now)
   few = walked-few _ _ at-start.requires.0 at_head.loop-i.invariant c.loop-i-test.true within c.if-marks-i-ne0.false
 
-pub no_marks-marks-requires : goal.no_marks-marks-requires
-no_marks-marks-requires c = tt
-
 pub next_index-i-requires : goal.next_index-i-requires
 next_index-i-requires c = (c.requires.0, zero-le)
 
 pub loop-i-init : goal.loop-i-init
-loop-i-init c = walked_none _ _ c.no_marks-marks.ensures c.next_index-i.ensures
-
-pub not_a_roll-requires : goal.not_a_roll-requires
-not_a_roll-requires c = tt
+loop-i-init c = walked_none _ _ refl c.next_index-i.ensures
 
 pub returns-then-slots-i : goal.returns-then-slots-i
-returns-then-slots-i c = c.not_a_roll.ensures ∙ walked-beyond _ _ c.requires.0 c.loop-i.invariant c.loop-i-test.true (omega (arith, c.requires.1))
+returns-then-slots-i c = walked-beyond _ _ c.requires.0 c.loop-i.invariant c.loop-i-test.true (omega (arith, c.requires.1))
 
 pub bounds-marks-i : goal.bounds-marks-i
 bounds-marks-i c = let z = (goal.at.bounds-marks-i c).Start in
     omega (arith, z.requires.1, (sizes z).most)
 
-pub not_a_roll-requires-then-marks-i-ne0 : goal.not_a_roll-requires-then-marks-i-ne0
-not_a_roll-requires-then-marks-i-ne0 c = tt
-
 pub returns-then-marks-i-ne0 : goal.returns-then-marks-i-ne0
-returns-then-marks-i-ne0 c = c.not_a_roll-then-marks-i-ne0.ensures
-    ∙ walked-twice _ _ c.requires.0 c.loop-i.invariant c.loop-i-test.true (omega (arith, c.requires.1)) c.if-marks-i-ne0.true
+returns-then-marks-i-ne0 c = walked-twice _ _ c.requires.0 c.loop-i.invariant c.loop-i-test.true (omega (arith, c.requires.1)) c.if-marks-i-ne0.true
 
 pub bounds-marks-i-in-loop-i : goal.bounds-marks-i-in-loop-i
 bounds-marks-i-in-loop-i c = omega (arith, within c, (sizes (at-start c)).most)

@@ -17,7 +17,3 @@ overflow_mul-result c = record { fits = rw c.block_bytes.ensures (omega (arith, 
 pub overflow_add-result : goal.overflow_add-result
 unfolding handed limit
 overflow_add-result c = record { fits = rw (c.block_bytes.ensures, c.held_length.ensures) (omega (arith, few (goal.at.overflow_add-result c).Start)) }
-
-pub returns : goal.returns
-unfolding handed limit
-returns c = rw (c.block_bytes.ensures, c.held_length.ensures)

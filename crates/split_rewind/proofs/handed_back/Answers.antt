@@ -7,10 +7,8 @@ use borrow.Author.Rules.{rules}
 use Rattle.lsh.specs.WordSize.{size_of, block_bytes}
 use Rattle.limits.specs.Limits.{limit}
 use Rattle.limits.proofs.Limits.{block-most}
-use Rattle.orders.specs.Record.{held_of}
 use Rattle.orders.specs.declared.Record.{Record}
 use Rattle.orders.proofs.Sound.{sounds}
-use Rattle.orders.specs.HandBack.{handed_back}
 use Rattle.orders.proofs.HandBacks.{a_block, second-chain}
 use Rattle.split_rewind.proofs.handed_back.Goals as goal
 use Rattle.split_rewind.proofs.handed_back.Goals.{Start}
@@ -25,20 +23,14 @@ module _ (z : Start) where
   block : (length z.args.block.now ≡ block_bytes (size_of R.w)) × (R.split.blocks < R.total / block_bytes (size_of R.w))
   block = a_block (block_bytes (size_of R.w)) R.total R.split.blocks (length z.args.block.now) z.requires.2
 
-pub backward-run-requires : goal.backward-run-requires
-unfolding handed_back held_of limit
-backward-run-requires c = let z = (goal.at.backward-run-requires c).Start in
+pub backward-requires : goal.backward-requires
+backward-requires c = let z = (goal.at.backward-requires c).Start in
     ((sounds (R z) z.requires.0).word, second-chain (R z) z.requires.0 z.requires.1 (words z))
 
-pub zero_filled-back-requires : goal.zero_filled-back-requires
-unfolding handed_back held_of limit
-zero_filled-back-requires c = let z = (goal.at.zero_filled-back-requires c).Start in omega (arith, (block z).0, block-most (R z).w)
+pub zero_filled-requires : goal.zero_filled-requires
+zero_filled-requires c = let z = (goal.at.zero_filled-requires c).Start in omega (arith, (block z).0, block-most (R z).w)
 
 pub overflow_add-result : goal.overflow_add-result
-unfolding handed_back held_of limit
+unfolding limit
 overflow_add-result c = let z = (goal.at.overflow_add-result c).Start in
     record { fits = omega (arith, (block z).1, div-le_self (R z).total (block_bytes (size_of (R z).w)), (sounds (R z) z.requires.0).few) }
-
-pub returns : goal.returns
-unfolding handed_back held_of limit
-returns c = rw (c.backward-run.ensures.0, c.zero_filled-back.ensures)

@@ -13,37 +13,36 @@ use Rattle.orders.proofs.Sound.{sounds}
 use Rattle.tags.specs.Hmac.{tag_of}
 use Rattle.tags.specs.KeyAnswer.{tag_bytes}
 use Rattle.tags.specs.Finish.{finish_output}
-use Rattle.answers.proofs.Output.{refused-output, written-output}
+use Rattle.answers.proofs.Output.{refused-by, written-output}
 use Rattle.tags.proofs.Accepted.{finish-accepted}
 use Rattle.tag.proofs.finish.Goals as goal
-use Rattle.tag.proofs.finish.Goals.{After-digest_bytes-inner, Else-a-ne0, Start}
+use Rattle.tag.proofs.finish.Goals.{After-digest_bytes-inner, In_ok-finish_answer, Start}
 
 -- the entry of the call
-abbrev start : Else-a-ne0 → Start
-start c = (goal.at.Else-a-ne0 c).Start
+abbrev start : In_ok-finish_answer → Start
+start c = (goal.at.In_ok-finish_answer c).Start
 
 -- the call is accepted
-passed : (c : Else-a-ne0)
+passed : (c : In_ok-finish_answer)
     → (sound (start c).args.r ≡ true) × ((start c).args.r.n % 8 ≡ 0)
     × (tag_bytes (start c).args.r.n ≤ length (start c).args.output.now)
 passed c =
     let a = (start c).args in
-    finish-accepted a.r (length a.key.now) (length a.output.now) (sym c.finish_answer-a.ensures ∙ c.if-a-ne0.false)
+    finish-accepted a.r (length a.key.now) (length a.output.now) (sym c.in_ok-finish_answer.ensures)
 
 -- the digest fits into its array
-few : (c : Else-a-ne0) → (start c).args.r.n ≤ longest_digest 64
+few : (c : In_ok-finish_answer) → (start c).args.r.n ≤ longest_digest 64
 few c =
     let r = (start c).args.r in
     let s = sounds r (passed c).0 in
     digest-longest r.w r.n s.word s.digest_length
 
 pub slice_bounds-inner-end : goal.slice_bounds-inner-end
-slice_bounds-inner-end c = let long : length c.digest_bytes-inner.result ≡ longest_block = search rules in omega (arith, few (goal.at.slice_bounds-inner-end c).Else-a-ne0)
+slice_bounds-inner-end c = let long : length c.digest_bytes-inner.result ≡ longest_block = search rules in omega (arith, few (goal.at.slice_bounds-inner-end c).In_ok-finish_answer)
 
-pub returns-then-a-ne0 : goal.returns-then-a-ne0
+pub returns-in_err-finish_answer : goal.returns-in_err-finish_answer
 unfolding finish_output
-returns-then-a-ne0 c = let a = c.args in
-    refused-output _ _ _ a.output.now c.finish_answer-a.ensures c.if-a-ne0.true
+returns-in_err-finish_answer c = refused-by _ _ _ c.args.output.now _ _ c.in_err-finish_answer.ensures c.from_residual.ensures.1
 
 pub digest_bytes-inner-requires : goal.digest_bytes-inner-requires
 unfolding finish_output
@@ -51,25 +50,26 @@ digest_bytes-inner-requires c = (passed c).0
 
 pub slice_bounds-tag_of-end : goal.slice_bounds-tag_of-end
 unfolding finish_output
-slice_bounds-tag_of-end c = sym (length-take-le _ _ (slice_bounds-inner-end (goal.at.slice_bounds-tag_of-end c).After-digest_bytes-inner))
+slice_bounds-tag_of-end c = let long : length c.digest_bytes-inner.result ≡ longest_block = search rules in
+    sym (length-take-le _ _ (omega (arith, few (goal.at.slice_bounds-tag_of-end c).In_ok-finish_answer)))
 
 pub tag_of-requires : goal.tag_of-requires
 unfolding finish_output
-tag_of-requires c = let p = (goal.at.tag_of-requires c).Else-a-ne0 in
+tag_of-requires c = let p = (goal.at.tag_of-requires c).In_ok-finish_answer in
     let s = sounds (start p).args.r (passed p).0 in
     (s.word, s.digest_length, (passed p).1)
 
 pub write_tag-requires : goal.write_tag-requires
 unfolding finish_output
-write_tag-requires c = let p = (goal.at.write_tag-requires c).Else-a-ne0 in
+write_tag-requires c = let p = (goal.at.write_tag-requires c).In_ok-finish_answer in
     (omega (arith, few p), (passed p).2)
 
 pub returns : goal.returns
 unfolding finish_output
-returns c = let p = (goal.at.returns c).Else-a-ne0 in
+returns c = let p = (goal.at.returns c).In_ok-finish_answer in
     let a = (start p).args in
     let size : a.r.n / 8 ≡ (a.r.n + 7) / 8 = omega (arith, (passed p).1) in
-    written-output _ _ _ a.output.now (sym p.finish_answer-a.ensures ∙ p.if-a-ne0.false)
+    written-output _ _ _ a.output.now (sym p.in_ok-finish_answer.ensures)
     (c.tag_of.ensures
     ∙ ap (tag_of a.r.w a.r.n a.key.now) (ap (λ (k : ℕ). take k c.digest_bytes-inner.result) size ∙ c.digest_bytes-inner.ensures))
     c.write_tag.ensures

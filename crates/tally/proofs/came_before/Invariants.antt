@@ -1,11 +1,10 @@
--- `tally::came_before` meets its contract: before each turn the receipt is the same as none of those from place j on. Assumes nothing.
-use Prim.Native.Nat.{◌-◌, ◌≤◌}
+-- `tally::came_before` meets its contract: before each turn the receipt is the same as none of those before place j. Assumes nothing.
+use mathlib.Core.Path.{◌≡◌}
+use mathlib.Core.Bool.{false}
+use Prim.Native.Nat.{ℕ, ◌<◌}
+use Rattle.receipts.specs.Same.{same_receipt}
 use Rattle.receipts.specs.Tally.{receipt_at}
-use Rattle.receipts.proofs.Places.{Left}
 use Rattle.tally.proofs.came_before.Given as goal
 
 abbrev pub invariant-loop-j : goal.invariant-loop-j
-invariant-loop-j l = (l.j ≤ l.i) × Left (receipt_at l.list l.i) l.list l.i l.j
-
-abbrev pub decreases-loop-j : goal.decreases-loop-j
-decreases-loop-j l = l.j
+invariant-loop-j l = (k : ℕ) → k < l.j → same_receipt (receipt_at l.list l.i) (receipt_at l.list k) ≡ false

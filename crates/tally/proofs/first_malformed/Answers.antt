@@ -1,20 +1,12 @@
 use mathlib.Core.Path.{sym, ap, ◌∙◌}
-use Prim.Native.Nat.{◌-◌}
 use lib.ListN.{length}
 use Rattle.receipts.specs.Receipt.{receipt_bytes}
 use Rattle.receipts.specs.WellFormed.{well_formed}
 use Rattle.receipts.specs.Tally.{receipt_count}
 use Rattle.receipts.proofs.Places.{receipt-length}
-use Rattle.receipts.proofs.Malformed.{searched-none, malformed-here, searched-more, searched-all}
+use Rattle.receipts.proofs.Malformed.{malformed-here, searched-more, searched-all}
+use native.Mathlib.Omega.{arith}
 use Rattle.tally.proofs.first_malformed.Goals as goal
-
-pub loop-i-init : goal.loop-i-init
-unfolding receipt_count receipt_bytes
-loop-i-init c = searched-none _
-
-pub receipt_at-requires : goal.receipt_at-requires
-unfolding receipt_count receipt_bytes
-receipt_at-requires c = c.loop-i-test.true
 
 pub is_well_formed-requires : goal.is_well_formed-requires
 unfolding receipt_count receipt_bytes
@@ -22,8 +14,10 @@ is_well_formed-requires c = ap length c.receipt_at.ensures ∙ receipt-length _ 
 
 pub returns-then-not-is_well_formed : goal.returns-then-not-is_well_formed
 unfolding receipt_count receipt_bytes
-returns-then-not-is_well_formed c = malformed-here _ _ c.loop-i.invariant c.loop-i-test.true
-    (sym (c.is_well_formed.ensures ∙ ap well_formed c.receipt_at.ensures) ∙ c.if-not-is_well_formed.true)
+returns-then-not-is_well_formed c = (
+  malformed-here _ _ c.loop-i.invariant c.loop-i-test.true (sym (c.is_well_formed.ensures ∙ ap well_formed c.receipt_at.ensures) ∙ c.if-not-is_well_formed.true),
+  c.loop-i-test.true,
+)
 
 pub loop-i-preserved : goal.loop-i-preserved
 unfolding receipt_count receipt_bytes
@@ -32,4 +26,4 @@ loop-i-preserved c = searched-more _ _ c.loop-i.invariant c.loop-i-test.true
 
 pub returns : goal.returns
 unfolding receipt_count receipt_bytes
-returns c = searched-all _ _ c.loop-i.invariant c.loop-i-test.false
+returns c = omega (arith, searched-all _ _ c.loop-i.invariant c.loop-i-test.false)
