@@ -17,6 +17,7 @@ ghost use Rattle.receipts.specs.Ending.{end_answer};
 use answers::Refusal;
 use limits::LONGEST_BLOCK;
 use runs::Engine;
+use word::Word;
 
 // Bytes of a receipt.
 pub const RECEIPT: usize = 76;
@@ -107,7 +108,7 @@ pub fn write_receipt(w: u64, n: u64, t: [u64; 16], bits: u64, output: &mut [u8])
     output[2] = (n % 256) as u8;
     output[3] = (n / 256) as u8;
     buffers::put(output, DIGEST, &bytes[..size]);
-    word64::store(output, LENGTH, bits);
+    bits.store(output, LENGTH);
 }
 
 // The bytes of the digest, and others after them. Byte n / 8 keeps its first n % 8 bits; where it keeps none, it is behind the digest.
@@ -140,7 +141,7 @@ fn final_words(t: [u64; 16]) -> [u64; 16]
     let mut r = [0u64; 16];
     for l in 0..8 {
         let h = l + 8;
-        r[l] = word64::exclusive_or(t[l], t[h]);
+        r[l] = t[l].exclusive_or(t[h]);
     }
     r
 }

@@ -1,5 +1,5 @@
 // The calls for C. Each is declared, with its answers, in include/lsh_kiosk.h, and is one line over the call that it carries the
-// equation of, with the number in place of a refusal. Records and answers pass by value, and the engine as a number, which only runs::engine_of reads.
+// equation of, with the number in place of a refusal. Records and answers pass by value, and the engine as a number, which only `Engine` of crate runs reads.
 #![tactic(auto)]
 
 ghost use Rattle.std.specs.Prelude.{◌≡◌, length};
@@ -27,19 +27,20 @@ ghost use Rattle.tags.specs.Check.{check_call};
 
 use orders::{Outcome, Record};
 use receipts::{Counts, Sameness};
+use runs::Engine;
 
 #[unsafe(no_mangle)]
 pub extern "C" fn lsh_block_forward(engine: u64, w: u64, chain: &mut [u8], block: &[u8]) -> u32
     ensures { (result ≡ block_answer w (length chain.old) (length block.now)) × (chain.new ≡ forward_bytes w chain.old block.now) }
 {
-    numbered::answer(block_call::forward(runs::engine_of(engine), w, chain, block))
+    numbered::answer(block_call::forward(Engine::from(engine), w, chain, block))
 }
 
 #[unsafe(no_mangle)]
 pub extern "C" fn lsh_block_backward(engine: u64, w: u64, chain: &mut [u8], block: &[u8]) -> u32
     ensures { (result ≡ block_answer w (length chain.old) (length block.now)) × (chain.new ≡ backward_bytes w chain.old block.now) }
 {
-    numbered::answer(block_call::backward(runs::engine_of(engine), w, chain, block))
+    numbered::answer(block_call::backward(Engine::from(engine), w, chain, block))
 }
 
 #[unsafe(no_mangle)]
@@ -48,7 +49,7 @@ pub extern "C" fn lsh_open(engine: u64, w: u64, n: u64) -> Outcome
 {
     numbered::outcome(
         record::no_record(),
-        record::open(runs::engine_of(engine), w, n),
+        record::open(Engine::from(engine), w, n),
     )
 }
 
@@ -56,14 +57,14 @@ pub extern "C" fn lsh_open(engine: u64, w: u64, n: u64) -> Outcome
 pub extern "C" fn lsh_append(engine: u64, r: Record, piece: &[u8]) -> Outcome
     ensures { result ≡ append_call r piece.now }
 {
-    numbered::outcome(r, append::append(runs::engine_of(engine), r, piece))
+    numbered::outcome(r, append::append(Engine::from(engine), r, piece))
 }
 
 #[unsafe(no_mangle)]
 pub extern "C" fn lsh_rewind(engine: u64, r: Record, keep: u64, h: &[u8]) -> Outcome
     ensures { result ≡ rewind_call r keep h.now }
 {
-    numbered::outcome(r, rewind::rewind(runs::engine_of(engine), r, keep, h))
+    numbered::outcome(r, rewind::rewind(Engine::from(engine), r, keep, h))
 }
 
 #[unsafe(no_mangle)]
@@ -79,7 +80,7 @@ pub extern "C" fn lsh_hand_back(engine: u64, r: Record, block: &[u8]) -> Outcome
 {
     numbered::outcome(
         r,
-        split_rewind::hand_back(runs::engine_of(engine), r, block),
+        split_rewind::hand_back(Engine::from(engine), r, block),
     )
 }
 
@@ -87,7 +88,7 @@ pub extern "C" fn lsh_hand_back(engine: u64, r: Record, block: &[u8]) -> Outcome
 pub extern "C" fn lsh_end(engine: u64, r: Record, keep: u64) -> Outcome
     ensures { result ≡ end_call r keep }
 {
-    numbered::outcome(r, split_rewind::end(runs::engine_of(engine), r, keep))
+    numbered::outcome(r, split_rewind::end(Engine::from(engine), r, keep))
 }
 
 #[unsafe(no_mangle)]
@@ -103,7 +104,7 @@ pub extern "C" fn lsh_append_roll(engine: u64, r: Record, piece: &[u8], roll: &m
 {
     numbered::outcome(
         r,
-        append_roll::append_roll(runs::engine_of(engine), r, piece, roll),
+        append_roll::append_roll(Engine::from(engine), r, piece, roll),
     )
 }
 
@@ -119,7 +120,7 @@ pub extern "C" fn lsh_rewind_roll(
 {
     numbered::outcome(
         r,
-        rewind_roll::rewind_roll(runs::engine_of(engine), r, keep, h, roll),
+        rewind_roll::rewind_roll(Engine::from(engine), r, keep, h, roll),
     )
 }
 
@@ -129,7 +130,7 @@ pub extern "C" fn lsh_end_roll(engine: u64, r: Record, keep: u64, roll: &mut [u8
 {
     numbered::outcome(
         r,
-        rewind_roll::end_roll(runs::engine_of(engine), r, keep, roll),
+        rewind_roll::end_roll(Engine::from(engine), r, keep, roll),
     )
 }
 
@@ -137,7 +138,7 @@ pub extern "C" fn lsh_end_roll(engine: u64, r: Record, keep: u64, roll: &mut [u8
 pub extern "C" fn lsh_close(engine: u64, r: Record, last: u8, e: u64, output: &mut [u8]) -> u32
     ensures { (result ≡ close_answer r last e (length output.old)) × (output.new ≡ close_output r last e output.old) }
 {
-    numbered::answer(close::close(runs::engine_of(engine), r, last, e, output))
+    numbered::answer(close::close(Engine::from(engine), r, last, e, output))
 }
 
 #[unsafe(no_mangle)]
@@ -152,7 +153,7 @@ pub extern "C" fn lsh_whole(
 ) -> u32
     ensures { (result ≡ whole_answer w n (length message.now) last e (length output.old)) × (output.new ≡ whole_output w n message.now last e output.old) }
 {
-    numbered::answer(whole::whole(runs::engine_of(engine), w, n, message, last, e, output))
+    numbered::answer(whole::whole(Engine::from(engine), w, n, message, last, e, output))
 }
 
 #[unsafe(no_mangle)]
@@ -180,7 +181,7 @@ pub extern "C" fn lsh_tag(
 ) -> u32
     ensures { (result ≡ tag_answer w n (length key.now) (length message.now) (length output.old)) × (output.new ≡ tag_output w n key.now message.now output.old) }
 {
-    numbered::answer(tag::tag(runs::engine_of(engine), w, n, key, message, output))
+    numbered::answer(tag::tag(Engine::from(engine), w, n, key, message, output))
 }
 
 #[unsafe(no_mangle)]
@@ -189,7 +190,7 @@ pub extern "C" fn lsh_tag_start(engine: u64, w: u64, n: u64, key: &[u8]) -> Outc
 {
     numbered::outcome(
         record::no_record(),
-        tag::start(runs::engine_of(engine), w, n, key),
+        tag::start(Engine::from(engine), w, n, key),
     )
 }
 
@@ -197,7 +198,7 @@ pub extern "C" fn lsh_tag_start(engine: u64, w: u64, n: u64, key: &[u8]) -> Outc
 pub extern "C" fn lsh_tag_finish(engine: u64, r: Record, key: &[u8], output: &mut [u8]) -> u32
     ensures { (result ≡ finish_answer r (length key.now) (length output.old)) × (output.new ≡ finish_output r key.now output.old) }
 {
-    numbered::answer(tag::finish(runs::engine_of(engine), r, key, output))
+    numbered::answer(tag::finish(Engine::from(engine), r, key, output))
 }
 
 #[unsafe(no_mangle)]
@@ -211,5 +212,5 @@ pub extern "C" fn lsh_tag_check(
 ) -> Sameness
     ensures { result ≡ check_call w n key.now message.now tag.now }
 {
-    numbered::sameness(tag::check(runs::engine_of(engine), w, n, key, message, tag))
+    numbered::sameness(tag::check(Engine::from(engine), w, n, key, message, tag))
 }

@@ -5,6 +5,7 @@ use crate::words::Words;
 use faults::Wanted;
 use limits::LONGEST_BLOCK;
 use orders::{Record, Split};
+use runs::Engine;
 use script::WIDE_CHAIN;
 
 #[derive(Clone, Copy, Debug, PartialEq, Eq)]
@@ -51,7 +52,7 @@ pub fn answer(line: Line, w: Words, s: &mut State) -> Option<Reply> {
         // set W N TOTAL CHAIN HELD MARK SECOND BACK BLOCKS
         Line::Set => s.record = record_of(w)?,
         // engine K
-        Line::Engine => s.engine = runs::engine_of(w.number(0)),
+        Line::Engine => s.engine = Engine::from(w.number(0)),
     }
     Some(Reply::Name)
 }

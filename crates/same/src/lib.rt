@@ -11,6 +11,7 @@ ghost use Rattle.receipts.specs.Numbered.{sameness};
 
 use answers::Refusal;
 use finalization::{DIGEST, LENGTH, MOST_BITS, RECEIPT};
+use word::Word;
 
 // Whether two receipts are the same.
 #[tactic(auto, unfolding(receipts::specs::Receipt::receipt_bytes, receipts::specs::Same::same_call, receipts::specs::Same::is_receipt_long))]
@@ -65,7 +66,7 @@ pub fn bit_length_of(r: &[u8]) -> u64
     requires { length r.now ≡ receipt_bytes }
     ensures { result ≡ bit_length_of r.now }
 {
-    word64::load(r, LENGTH)
+    u64::load(r, LENGTH)
 }
 
 // Whether the bits of the digest's last byte that it does not use are 0.
