@@ -7,6 +7,7 @@ use lib.ListN.{length, take, drop, replicate, length-set, length-append, length-
 use lib.Seq.{length-take-le, length-sets}
 use borrow.Author.Rules.{rules}
 use Rattle.lsh.proofs.Figures.{word-most}
+use Rattle.lsh.specs.WordSize.{lsh512, word_bytes}
 use Rattle.limits.specs.Limits.{longest_block, longest_digest}
 use Rattle.receipts.specs.Receipt.{receipt_bytes}
 use Rattle.receipts.proofs.Receipts.{written}
@@ -94,7 +95,7 @@ put-requires c = let z = (goal.at.put-requires c).Start in
     simp length-set (omega (arith, same_length (goal.at.put-requires c).After-fill, digest-size (goal.at.put-requires c).After-put-arg-1, few z, z.requires.3))
 
 pub store-requires : goal.store-requires
-unfolding receipt_bytes
+unfolding receipt_bytes lsh512 word_bytes
 store-requires c = rw (stored (goal.at.store-requires c).After-put) c.requires.3
 
 pub shape_of-output : goal.shape_of-output
@@ -102,6 +103,6 @@ unfolding receipt_bytes
 shape_of-output c = omega (arith, stored (goal.at.shape_of-output c).After-put)
 
 pub returns : goal.returns
-unfolding receipt_bytes
+unfolding receipt_bytes lsh512 word_bytes
 returns c = let e = (goal.at.returns c).After-fill in
     written _ _ _ e.requires.0 e.requires.1 _ e.args.output.now (cleared e) e.digest_bytes-bytes.ensures c.put.ensures.1 c.store.ensures
