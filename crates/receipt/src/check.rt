@@ -192,7 +192,7 @@ impl<'a> Listed<'a> {
     // Whether that is listed which is made of the file now. Receipts are compared by Same; of a digest or a tag every byte is compared, as in the check of a tag.
     fn agrees(&self, f: Fingerprint) -> bool {
         match self {
-            Listed::Receipt(receipt) => matches!(same::same(receipt, &f.receipt()), Ok(true)),
+            Listed::Receipt(receipt) => same::same(receipt, &f.receipt()) == Ok(true),
             Listed::Part(bytes) => buffers::equal_bytes(bytes, f.shown()),
         }
     }

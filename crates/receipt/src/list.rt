@@ -7,7 +7,7 @@ use crate::line;
 use crate::line::Unwritten;
 use decimal::DIGITS;
 use finalization::RECEIPT;
-use receipts::Counts;
+use receipts::Kinds;
 use tally::MOST_RECEIPTS;
 
 // Room for the line of the counts: three, each with a word of at most 10 bytes, and the newline.
@@ -39,19 +39,26 @@ impl List {
         }
     }
 
-    // Prints the last line: the tally of the receipts.
+    // Prints the last line: the tally of the receipts; zeros where the call is refused.
     #[tactic(auto, unfolding(receipts::specs::Tally::most_receipts))]
     pub fn print_tally(&self, rt: &HostRuntime) -> Result<(), Unwritten> {
-        let kinds = tally::tally(self.receipts[..self.count].as_flattened());
-        print_counts(rt, numbered::counts(kinds))
+        let answer = tally::tally(self.receipts[..self.count].as_flattened());
+        print_counts(
+            rt,
+            answer.unwrap_or(Kinds {
+                firsts: 0,
+                reprints: 0,
+                blanks: 0,
+            }),
+        )
     }
 }
 
-fn print_counts(rt: &HostRuntime, c: Counts) -> Result<(), Unwritten> {
+fn print_counts(rt: &HostRuntime, kinds: Kinds) -> Result<(), Unwritten> {
     let mut line = [0u8; COUNTS];
-    let firsts = put_count(&mut line, 0, b"firsts ", c.firsts);
-    let reprints = put_count(&mut line, firsts, b" reprints ", c.reprints);
-    let blanks = put_count(&mut line, reprints, b" blanks ", c.blanks);
+    let firsts = put_count(&mut line, 0, b"firsts ", kinds.firsts);
+    let reprints = put_count(&mut line, firsts, b" reprints ", kinds.reprints);
+    let blanks = put_count(&mut line, reprints, b" blanks ", kinds.blanks);
     let end = buffers::put(&mut line, blanks, b"\n");
     line::write(rt, &line[..end])
 }
