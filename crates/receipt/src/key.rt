@@ -1,5 +1,5 @@
 // The key, read from its file.
-ghost use Rattle.std.specs.Prelude.{◌≤◌, length, IfSome, IfOk};
+ghost use Rattle.std.specs.Prelude.{◌≤◌, length, IfOk};
 
 use crate::messages;
 use program::arguments::Start;
@@ -13,18 +13,15 @@ const KEY: usize = 65536;
 pub const ROOM: usize = KEY + 1;
 
 // A key that was read.
-#[derive(Clone, Copy, Debug, PartialEq, Eq)]
-pub struct Key {
-    // How many bytes it has.
-    pub size: usize,
+#[derive(Clone, Copy)]
+pub struct Key<'a> {
+    pub bytes: &'a [u8],
     // Whether it came from standard input.
     pub is_input: bool,
 }
 
 // Reads the key into the room from the file that an option names; nothing where that makes no key, which is said.
-pub fn read(rt: &HostRuntime, file: Start, room: &mut [u8; ROOM]) -> Option<Key>
-    ensures { IfSome result (λ k. k.size ≤ ROOM) }
-{
+pub fn read<'a>(rt: &HostRuntime, file: Start, room: &'a mut [u8; ROOM]) -> Option<Key<'a>> {
     let mut text = io::buffer();
     match arguments::get(rt, file.argument, &mut text) {
         Some(path) => named(rt, arguments::from(path, file.byte), room),
@@ -36,15 +33,13 @@ pub fn read(rt: &HostRuntime, file: Start, room: &mut [u8; ROOM]) -> Option<Key>
 }
 
 // The same for a file of a name.
-fn named(rt: &HostRuntime, name: &[u8], room: &mut [u8; ROOM]) -> Option<Key>
-    ensures { IfSome result (λ k. k.size ≤ ROOM) }
-{
+fn named<'a>(rt: &HostRuntime, name: &[u8], room: &'a mut [u8; ROOM]) -> Option<Key<'a>> {
     let mut source = files::open(rt, b"receipt", name)?;
     let filled = fill(&mut source, room);
     files::close(source);
     match filled {
         Ok(size) if is_right(rt, name, size) => Some(Key {
-            size,
+            bytes: &room[..size],
             is_input: files::is_standard_input(name),
         }),
         Ok(_) => None,

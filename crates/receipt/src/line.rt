@@ -69,6 +69,14 @@ fn put(line: &mut [u8; LINE], shown: &[u8], bits: Option<u64>, name: Name) -> us
     names::put(line, c, name.bytes)
 }
 
+// The same for a name and a verdict.
+fn put_verdict(line: &mut [u8; LINE], name: Name, verdict: Verdict) -> usize
+    ensures { (1 ≤ result) × (result < LINE) }
+{
+    let a = names::put(line, 1, name.bytes);
+    buffers::put(line, a, verdict.words())
+}
+
 // A space and the length, if it is asked for.
 fn put_length(line: &mut [u8], from: usize, bits: Option<u64>) -> usize
     requires { from + 1 + most_digits ≤ length line.old }
@@ -81,14 +89,6 @@ fn put_length(line: &mut [u8], from: usize, bits: Option<u64>) -> usize
         }
         None => from,
     }
-}
-
-// The same for a name and a verdict.
-fn put_verdict(line: &mut [u8; LINE], name: Name, verdict: Verdict) -> usize
-    ensures { (1 ≤ result) × (result < LINE) }
-{
-    let a = names::put(line, 1, name.bytes);
-    buffers::put(line, a, verdict.words())
 }
 
 // Ends a line of a name, and prints it. As sha256sum does, a line whose name has an escaped byte begins with a backslash.

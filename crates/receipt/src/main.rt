@@ -40,7 +40,7 @@ fn run(rt: &HostRuntime, asked: Asked) -> Status {
 fn with_key(rt: &HostRuntime, asked: Asked, file: Start) -> Status {
     let mut room = [0; key::ROOM];
     match key::read(rt, file, &mut room) {
-        Some(key) => files::all(&Job::with_key(rt, asked, &room[..key.size], key.is_input)),
+        Some(key) => files::all(&Job::with_key(rt, asked, key.bytes, key.is_input)),
         None => Status::Failed,
     }
 }
