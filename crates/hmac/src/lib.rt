@@ -62,14 +62,13 @@ pub fn key_block(
 }
 
 // Each byte exclusive or the byte x.
-pub fn xor_each(block: [u8; LONGEST_BLOCK], x: u8) -> [u8; LONGEST_BLOCK]
+pub fn xor_each(mut block: [u8; LONGEST_BLOCK], x: u8) -> [u8; LONGEST_BLOCK]
     ensures { result ≡ xor_each x block }
 {
-    let mut b = block;
-    for i in 0..LONGEST_BLOCK {
-        b[i] = b[i] ^ x;
+    for byte in &mut block {
+        *byte ^= x;
     }
-    b
+    block
 }
 
 // The digest of the block of a key, each byte of it exclusive or the byte x, and of the bytes after it.

@@ -28,7 +28,8 @@ const MARKS: usize = MOST_SLOTS + 1;
 // A checkpoint is inserted at every 64th block.
 pub const SPACING: u64 = 64;
 
-// What is known of a roll that was walked: how many slots it has and how many of them are linked, the last link, or 0, and which slots are linked.
+// What is known of a roll that was walked: how many slots it has and how many of them are linked, the last link, or 0, and which slots are linked. A mark is
+// a number, 0 or 1, since the laws of lists by place are over numbers.
 #[derive(Clone, Copy)]
 pub struct Traversal {
     pub slots: usize,
@@ -109,7 +110,7 @@ fn is_roll_length(w: u64, size: usize) -> bool
     1 <= k && k <= MOST_SLOTS && size == INDEX + k * slot_bytes(w)
 }
 
-// The links of a roll of right length.
+// The links of a roll of right length. Each index leads to the next, so that there is nothing to go over but they.
 fn walk_links(w: u64, slots: usize, roll: &[u8]) -> Option<Traversal>
     requires { (is_roll_length (size_of w) (length roll.now) ≡ true) × (slots ≡ slot_count (size_of w) (length roll.now)) }
     ensures { result ≡ traversal_of (size_of w) roll.now }
@@ -153,7 +154,7 @@ fn with_link(y: Traversal, i: usize) -> Traversal
     }
 }
 
-// The slot that is taken, of the first k.
+// The slot that is taken, of the first k, or k + 1 if none is free. Slots are counted from 1, so the loop is over their numbers.
 fn free_slot(k: usize, marks: [u8; MARKS]) -> usize
     requires { k ≤ most_slots }
     ensures { (linked : List ℕ) → marks ≡ marked linked → result ≡ free_slot k linked }

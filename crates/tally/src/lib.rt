@@ -92,7 +92,8 @@ fn is_blank(r: &[u8]) -> bool
     same::bit_length_of(r) == 0
 }
 
-// Whether the receipt at place i is the same as an earlier one. All bytes are compared only where the checksums agree.
+// Whether the receipt at place i is the same as an earlier one. All bytes are compared only where the checksums agree. The loop is over places, which the
+// list of receipts and that of the checksums share.
 #[tactic(auto, unfolding(receipts::specs::Tally::most_receipts))]
 fn came_before(list: &[u8], sums: &[u64; MOST_RECEIPTS], i: usize) -> bool
     requires { (i < most_receipts) × (i < receipt_count list.now) × ((j : ℕ) → j ≤ i → IsReceipt (receipt_at list.now j)) × ((j : ℕ) → j ≤ i → at sums.now j ≡ checksum (receipt_at list.now j)) }

@@ -1,5 +1,5 @@
 use mathlib.Core.Path.{◌≡◌, ap, ◌∙◌}
-use Prim.Native.Nat.{ℕ, ◌-◌}
+use Prim.Native.Nat.{ℕ}
 use native.Mathlib.Omega.{arith}
 use lib.Bits.{bit_xor}
 use lib.ListN.{length, get_or}
@@ -17,19 +17,18 @@ use Rattle.hmac.proofs.xor_each.Goals.{Start}
 fits : (z : Start) (i : ℕ) → Fits w8 (get_or z.args.block i 0)
 fits z i = search rules
 
-pub loop-i-init : goal.loop-i-init
-unfolding xor_each
-loop-i-init c = placed-none _ _ _ _
+pub loop-byte-init : goal.loop-byte-init
+loop-byte-init c = placed-none _ _ _ _
 
-pub loop-i-preserved : goal.loop-i-preserved
-unfolding xor_each
-loop-i-preserved c = let z = (goal.at.loop-i-preserved c).Start in
+pub loop-byte-preserved : goal.loop-byte-preserved
+loop-byte-preserved c = let z = (goal.at.loop-byte-preserved c).Start in
+    let i : ℕ = c.loop-byte.byte-index in
     let long : length z.args.block ≡ longest_block = search rules in
-    let same : at c.loop-i.b c.loop-i.i ≡ at z.args.block c.loop-i.i = c.loop-i.invariant.rest c.loop-i.i (λ k lt e. omega arith) in
-    filled_more _ c.loop-i.invariant c.loop-i-test.true (omega arith)
-    (ap (λ (b : ℕ). bit_xor b z.args.x) same ∙ xor_is 8 (at z.args.block c.loop-i.i) z.args.x (fits z c.loop-i.i).fits z.ranges.x.fits)
+    let same : at c.loop-byte.byte-items i ≡ at z.args.block i = c.loop-byte.invariant.rest i (λ k lt e. omega arith) in
+    filled_more _ c.loop-byte.invariant c.loop-byte-test.true (omega arith)
+    (ap (λ (b : ℕ). bit_xor b z.args.x) same ∙ xor_is 8 (at z.args.block i) z.args.x (fits z i).fits z.ranges.x.fits)
 
 pub returns : goal.returns
 unfolding xor_each
 returns c = let long : length c.args.block ≡ longest_block = search rules in
-    filled-all c.loop-i.invariant c.loop-i-test.false long ∙ rw long
+    filled-all c.loop-byte.invariant c.loop-byte-test.false long ∙ rw long
