@@ -61,7 +61,7 @@ pub fn digest_length_of(r: &[u8]) -> u64
 }
 
 // The length in bits of the message that a receipt is of.
-#[tactic(auto, unfolding(receipts::specs::Receipt::receipt_bytes, receipts::specs::Parts::bit_length_of))]
+#[tactic(auto, unfolding(receipts::specs::Receipt::receipt_bytes, receipts::specs::Parts::bit_length_of, lsh::specs::WordSize::lsh512, lsh::specs::WordSize::word_bytes))]
 pub fn bit_length_of(r: &[u8]) -> u64
     requires { length r.now ≡ receipt_bytes }
     ensures { result ≡ bit_length_of r.now }
