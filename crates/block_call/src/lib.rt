@@ -17,7 +17,7 @@ pub fn forward(engine: Engine, w: u64, chain: &mut [u8], block: &[u8]) -> Result
     Ok(())
 }
 
-// Runs the block backward, if the call is accepted.
+// Runs the block backward, if the call is accepted. It has its own three lines: with the run as a parameter they would be two calls of a function with a longer contract.
 pub fn backward(engine: Engine, w: u64, chain: &mut [u8], block: &[u8]) -> Result<(), Refusal>
     ensures { (answer_of result ≡ block_answer w (length chain.old) (length block.now)) × (chain.new ≡ backward_bytes w chain.old block.now) }
 {

@@ -139,6 +139,7 @@ fn final_words(t: [u64; 16]) -> [u64; 16]
     ensures { result ≡ tabulate 8 (λ l. xor 64 (at t l) (at t (l + 8))) ++ replicate 8 0 }
 {
     let mut r = [0u64; 16];
+    // One number is the place of three words, which iterators would take from a zip within a zip.
     for l in 0..8 {
         let h = l + 8;
         r[l] = t[l].exclusive_or(t[h]);

@@ -57,8 +57,9 @@ pub fn keeps_too_much(w: u64, keep: u64, size: u64) -> bool
     size < keep || runs::block_bytes(w) as u64 <= keep
 }
 
-// Where size bytes were handed back, which lead back to the chain, and the first keep of the bytes s remain. OpeningDiffers is known only after the run, which is on
-// copies, so a refusal has nothing to undo.
+// Where size bytes were handed back, which lead back to the chain, and the first keep of the bytes s remain.
+// OpeningDiffers is known only after the run, which is on copies, so a refusal has nothing to undo.
+// The definition has size, keep, chain and s in a record (`Cut`); here a struct of them would be made at each call and taken apart at once.
 #[tactic(auto, unfolding(orders::specs::Rewind::cut_call, orders::specs::Rewind::opening_differs, orders::specs::Rewind::rewound, orders::specs::Record::held_of))]
 pub fn cut(
     engine: Engine,

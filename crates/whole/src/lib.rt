@@ -8,7 +8,8 @@ ghost use Rattle.receipts.specs.Whole.{whole_answer, whole_output};
 use answers::Refusal;
 use runs::Engine;
 
-// Writes the receipt of the message and the top e bits of its last byte, if the call is accepted.
+// Writes the receipt of the message and the top e bits of its last byte, if the call is accepted. What is asked for comes one by one, as C passes it and as
+// `whole_answer` and `whole_output` take it.
 pub fn whole(
     engine: Engine,
     w: u64,
