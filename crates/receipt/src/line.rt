@@ -1,5 +1,5 @@
 // The lines that are printed: what was made of a file, or what a check found of it, and its name.
-ghost use Rattle.std.specs.Prelude.{◌≡◌, ◌+◌, ◌<◌, ◌≤◌, length};
+ghost use Rattle.std.specs.Prelude.{◌+◌, ◌<◌, ◌≤◌, length};
 ghost use Rattle.receipts.specs.Receipt.{receipt_bytes};
 ghost use Rattle.decimal.specs.Number.{most_digits};
 ghost use Rattle.receipt.specs.Sizes.{verdict_bytes};
