@@ -25,7 +25,7 @@ pub enum Reply {
     Truth(Result<bool, Refusal>),
     // The number, and the output.
     Output(Result<(), Refusal>),
-    // The number, the place of a malformed receipt if there is one, and what Tally counted.
+    // What Tally counted.
     Tally(Result<Kinds, TallyRefusal>),
     Roll,
     Record,
@@ -99,6 +99,7 @@ fn number_of(answer: Result<(), Refusal>) -> u64 {
     }
 }
 
+// The number, the place of a malformed receipt if there is one, and the three counts, which are 0 where the list is refused.
 fn put_tally(line: &mut [u8; ROOM], from: usize, answer: Result<Kinds, TallyRefusal>) -> usize
     requires { from ≤ LINE }
     ensures { result < ROOM }
