@@ -24,13 +24,7 @@ fn step(c: [u32; 8], pw: &[u64; 32], k: [u32; 4], j: usize, m: &[u32], t: [u32; 
     requires { (c ≡ tabulate 8 (constant lsh256 j)) × (pw.now ≡ powers (beta_gamma lsh256)) × (k ≡ shifts lsh256 j) × (j * 16 + 16 ≤ length m.now) }
     ensures { result ≡ step lsh256 j (row m.now j) t }
 {
-    steps::permute(mix256::mix(
-        c,
-        pw,
-        k,
-        j,
-        steps::add_message(t, words::sub_message(m, j)),
-    ))
+    steps::permute(mix256::mix(c, pw, k, j, steps::add_message(t, words::sub_message(m, j))))
 }
 
 // Step j taken back, with its sub-message q.
@@ -87,13 +81,7 @@ struct Stepped {
 }
 
 // Step j, if it is even. The shifts are then constants to the compiler.
-fn even_step(
-    sc: &[u32],
-    pw: &[u64; 32],
-    m: &mut [u32],
-    j: usize,
-    t: [u32; 16],
-) -> Stepped
+fn even_step(sc: &[u32], pw: &[u64; 32], m: &mut [u32], j: usize, t: [u32; 16]) -> Stepped
     requires { (sc.now ≡ constants lsh256) × (pw.now ≡ powers (beta_gamma lsh256)) × (j < lsh256.steps) × (length m.old ≡ expanded_words lsh256 + 16) }
     ensures { ((m₀ u : List ℕ) → SteppedAhead lsh256 m₀ m.old j u t → SteppedAhead lsh256 m₀ m.new result.count u result.chain) × (result.count ≡ j + (1 - j % 2)) }
 {
@@ -141,13 +129,7 @@ fn odd_steps(
 }
 
 // The steps on the chain t, an even one and an odd one a turn, and then M_steps, for the block whose words stand first in m.
-fn all_steps(
-    sc: &[u32],
-    pw: &[u64; 32],
-    m: &mut [u32],
-    steps: usize,
-    t: [u32; 16],
-) -> [u32; 16]
+fn all_steps(sc: &[u32], pw: &[u64; 32], m: &mut [u32], steps: usize, t: [u32; 16]) -> [u32; 16]
     requires { (sc.now ≡ constants lsh256) × (pw.now ≡ powers (beta_gamma lsh256)) × (length m.old ≡ expanded_words lsh256 + 16) × (steps ≤ lsh256.steps) }
     ensures { result ≡ forward_steps lsh256 steps (take 32 m.old) t }
 {
@@ -165,13 +147,7 @@ fn all_steps(
 
 // The steps taken back from the last, on the chain t from which M_steps is taken already. The shifts come again after two steps, so those of the last step are those of step
 // steps + 1.
-fn all_unsteps(
-    sc: &[u32],
-    pw: &[u64; 32],
-    m: &[u32],
-    steps: usize,
-    t: [u32; 16],
-) -> [u32; 16]
+fn all_unsteps(sc: &[u32], pw: &[u64; 32], m: &[u32], steps: usize, t: [u32; 16]) -> [u32; 16]
     requires { (sc.now ≡ constants lsh256) × (pw.now ≡ powers (remaining lsh256)) × (length m.now ≡ expanded_words lsh256) × (steps ≤ lsh256.steps) }
     ensures { (u : List ℕ) → RunBack lsh256 m.now steps steps u t → RunBack lsh256 m.now steps 0 u result }
 {

@@ -78,10 +78,7 @@ pub extern "C" fn lsh_begin(r: Record, bytes: &[u8]) -> Outcome
 pub extern "C" fn lsh_hand_back(engine: u64, r: Record, block: &[u8]) -> Outcome
     ensures { result ≡ hand_back_call r block.now }
 {
-    numbered::outcome(
-        r,
-        split_rewind::hand_back(Engine::from(engine), r, block),
-    )
+    numbered::outcome(r, split_rewind::hand_back(Engine::from(engine), r, block))
 }
 
 #[unsafe(no_mangle)]

@@ -14,7 +14,6 @@ ghost use Rattle.limits.specs.Limits.{longest_block, longest_digest, is_digest_l
 
 use limits::LONGEST_BLOCK;
 use word::Word;
-
 pub use words::Run;
 
 mod engines;
@@ -171,10 +170,16 @@ pub fn forward_bytes(engine: Engine, w: u64, chain: &mut [u8], s: &[u8])
     ensures { chain.new ≡ bytes_of (size_of w) (forwards (size_of w) (blocks_of (size_of w) s.now) (words_of (size_of w) 16 chain.old)) }
 {
     if w == 32 {
-        let room = Run { chain: [0u32; 16], count: 0 };
+        let room = Run {
+            chain: [0u32; 16],
+            count: 0,
+        };
         forward_bytes_at(engine, room, chain, s);
     } else {
-        let room = Run { chain: [0u64; 16], count: 0 };
+        let room = Run {
+            chain: [0u64; 16],
+            count: 0,
+        };
         forward_bytes_at(engine, room, chain, s);
     }
 }
@@ -184,10 +189,16 @@ pub fn backward_bytes(engine: Engine, w: u64, chain: &mut [u8], s: &[u8])
     ensures { chain.new ≡ bytes_of (size_of w) (backwards (size_of w) (blocks_of (size_of w) s.now) (words_of (size_of w) 16 chain.old)) }
 {
     if w == 32 {
-        let room = Run { chain: [0u32; 16], count: 0 };
+        let room = Run {
+            chain: [0u32; 16],
+            count: 0,
+        };
         backward_bytes_at(engine, room, chain, s);
     } else {
-        let room = Run { chain: [0u64; 16], count: 0 };
+        let room = Run {
+            chain: [0u64; 16],
+            count: 0,
+        };
         backward_bytes_at(engine, room, chain, s);
     }
 }

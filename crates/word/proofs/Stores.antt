@@ -1,11 +1,10 @@
 -- Loops that store words: the laws of loops over numbers, for lists of words. z is the number that is stored.
 -- Assumes nothing.
-use mathlib.Core.Path.{◌≡◌, refl, sym, ap, ◌∙◌, subst}
-use mathlib.Core.List.{List, [], ◌∷◌}
-use Prim.Native.Nat.{ℕ, suc, ◌+◌, ◌≤◌, ◌<◌}
+use mathlib.Core.Path.{◌≡◌, sym, ap, ◌∙◌, subst}
+use mathlib.Core.List.{List}
+use Prim.Native.Nat.{ℕ, ◌+◌, ◌≤◌, ◌<◌}
 use lib.ListN.{length, set}
-use lib.Seq.{sets}
-use Rattle.lsh.specs.Tabulate.{at, tabulate}
+use Rattle.lsh.specs.Tabulate.{at}
 use Rattle.lsh.specs.Lane.{Lane, lane}
 use Rattle.lsh.proofs.Permutation.{Permutation}
 use Rattle.loops.proofs.Places.{Placed, placed-more, filled_more, scattered-more}

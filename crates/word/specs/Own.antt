@@ -1,6 +1,6 @@
 -- A number is a word of its own, and the figures that the code has of a size are those of the definition.
 -- Assumes nothing.
-use Rattle.std.specs.Prelude.{◌≡◌, refl, List, ℕ}
+use Rattle.std.specs.Prelude.{◌≡◌, refl, ℕ}
 use Rattle.std.proofs.lemmas.Grind.{get_or_default_zero}
 use Rattle.lsh.specs.WordSize.{lsh256, lsh512, word_bytes, chain_bytes, block_bytes}
 use Rattle.word.specs.Numbers.{TakesEach}

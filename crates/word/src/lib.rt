@@ -153,7 +153,8 @@ impl Word for u32 {
     ghost GAMMAS = { lsh256.gammas };
 
     const FIRST_CONSTANTS: [u32; 8] = [
-        0x917caf90, 0x6c1b10a2, 0x6f352943, 0xcf778243, 0x2ceb7472, 0x29e96ff2, 0x8a9ba428, 0x2eeb2642,
+        0x917caf90, 0x6c1b10a2, 0x6f352943, 0xcf778243, 0x2ceb7472, 0x29e96ff2, 0x8a9ba428,
+        0x2eeb2642,
     ];
 
     ghost FIRST_CONSTANTS = { lsh256.first_constants };
@@ -350,7 +351,8 @@ impl Word for u64 {
         let g = f + 1;
         let h = g + 1;
         let high = wide64(s[e]) + 256 * (wide64(s[f]) + 256 * (wide64(s[g]) + 256 * wide64(s[h])));
-        wide64(s[a]) + 256 * (wide64(s[b]) + 256 * (wide64(s[c]) + 256 * (wide64(s[d]) + 256 * high)))
+        wide64(s[a])
+            + 256 * (wide64(s[b]) + 256 * (wide64(s[c]) + 256 * (wide64(s[d]) + 256 * high)))
     }
 
     fn store(self, d: &mut [u8], a: usize) {

@@ -217,7 +217,13 @@ fn last_unstep<W: Word, M: Mix<W>>(sc: &[W], m: &[W], steps: usize, t: [W; 16]) 
 }
 
 // The block s on the chain t, with this number of steps. m is room for the sub-messages.
-fn forward_block<W: Word, M: Mix<W>>(sc: &[W], m: &mut [W], steps: usize, s: &[u8], t: [W; 16]) -> [W; 16]
+fn forward_block<W: Word, M: Mix<W>>(
+    sc: &[W],
+    m: &mut [W],
+    steps: usize,
+    s: &[u8],
+    t: [W; 16],
+) -> [W; 16]
     requires { (W.numbers sc.now ≡ constants W.size) × (length m.old ≡ expanded_words W.size) × (1 ≤ steps) × (steps ≤ W.size.steps) × (length s.now ≡ block_bytes W.size) }
     ensures { W.numbers result ≡ forward_steps W.size steps (words_of W.size 32 s.now) (W.numbers t) }
 {
@@ -231,7 +237,13 @@ fn forward_block<W: Word, M: Mix<W>>(sc: &[W], m: &mut [W], steps: usize, s: &[u
     some_steps::<W, M>(sc, m, steps, t)
 }
 
-fn backward_block<W: Word, M: Mix<W>>(sc: &[W], m: &mut [W], steps: usize, s: &[u8], t: [W; 16]) -> [W; 16]
+fn backward_block<W: Word, M: Mix<W>>(
+    sc: &[W],
+    m: &mut [W],
+    steps: usize,
+    s: &[u8],
+    t: [W; 16],
+) -> [W; 16]
     requires { (W.numbers sc.now ≡ constants W.size) × (length m.old ≡ expanded_words W.size) × (1 ≤ steps) × (steps ≤ W.size.steps) × (length s.now ≡ block_bytes W.size) }
     ensures { W.numbers result ≡ backward_steps W.size steps (words_of W.size 32 s.now) (W.numbers t) }
 {
@@ -246,7 +258,13 @@ fn backward_block<W: Word, M: Mix<W>>(sc: &[W], m: &mut [W], steps: usize, s: &[
 }
 
 // Runs the whole blocks of s forward, in order, on the chain t, with this number of steps each. sc and m are room for the step constants and the sub-messages.
-pub fn forward<W: Word, M: Mix<W>>(sc: &mut [W], m: &mut [W], steps: usize, t: [W; 16], s: &[u8]) -> Run<W>
+pub fn forward<W: Word, M: Mix<W>>(
+    sc: &mut [W],
+    m: &mut [W],
+    steps: usize,
+    t: [W; 16],
+    s: &[u8],
+) -> Run<W>
     requires { (length sc.old ≡ W.size.steps * 8) × (length m.old ≡ expanded_words W.size) × (1 ≤ steps) × (steps ≤ W.size.steps) }
     ensures { (W.numbers result.chain ≡ forwards_steps W.size steps (blocks_of W.size s.now) (W.numbers t)) × (result.count ≡ length s.now / block_bytes W.size) }
 {
@@ -264,7 +282,13 @@ pub fn forward<W: Word, M: Mix<W>>(sc: &mut [W], m: &mut [W], steps: usize, t: [
 }
 
 // Runs the whole blocks of s backward, from the last, on the chain t.
-pub fn backward<W: Word, M: Mix<W>>(sc: &mut [W], m: &mut [W], steps: usize, t: [W; 16], s: &[u8]) -> Run<W>
+pub fn backward<W: Word, M: Mix<W>>(
+    sc: &mut [W],
+    m: &mut [W],
+    steps: usize,
+    t: [W; 16],
+    s: &[u8],
+) -> Run<W>
     requires { (length sc.old ≡ W.size.steps * 8) × (length m.old ≡ expanded_words W.size) × (1 ≤ steps) × (steps ≤ W.size.steps) }
     ensures { (W.numbers result.chain ≡ backwards_steps W.size steps (blocks_of W.size s.now) (W.numbers t)) × (result.count ≡ length s.now / block_bytes W.size) }
 {

@@ -1,5 +1,4 @@
 use mathlib.Core.Path.{refl}
-use Prim.Native.Nat.{◌-◌}
 use native.Mathlib.Omega.{arith}
 use Rattle.loops.specs.Fours.{four}
 use Rattle.loops.proofs.Places.{placed-none, filled_more, filled-all}

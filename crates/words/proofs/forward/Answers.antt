@@ -14,7 +14,6 @@ use Rattle.words.proofs.forward.Goals as goal
 pub nonzero_div-n : goal.nonzero_div-n
 nonzero_div-n g c = rw (c.BLOCK-block.ensures ∙ g.met.W.Word.block_is) (sized g.met.W.Word.is_size).block-some
 
-
 pub loop-k-init : goal.loop-k-init
 loop-k-init g c = (run-forward-none g.W.Word.size _ _ _ _, c.requires.1)
 

@@ -20,9 +20,11 @@ load-requires g c = let w = g.met.W.Word in rw (c.BYTES.ensures ∙ w.bytes_is) 
 pub loop-l-preserved : goal.loop-l-preserved
 loop-l-preserved g c =
     let w = g.met.W.Word in
-    let z = g.W.Word.size in
-    (filled_word w.takes_each _ c.loop-l.invariant.0 c.loop-l-test.true c.loop-l.invariant.1
-    (c.load.ensures ∙ ap (λ (b : ℕ). word_at (word_bytes z) c.args.s.now (c.loop-l.l * b)) (c.BYTES.ensures ∙ w.bytes_is)), c.loop-l.invariant.1)
+    let z = g.W.Word.size in (
+      filled_word w.takes_each _ c.loop-l.invariant.0 c.loop-l-test.true c.loop-l.invariant.1
+          (c.load.ensures ∙ ap (λ (b : ℕ). word_at (word_bytes z) c.args.s.now (c.loop-l.l * b)) (c.BYTES.ensures ∙ w.bytes_is)),
+      c.loop-l.invariant.1,
+    )
 
 pub returns : goal.returns
 unfolding words_of

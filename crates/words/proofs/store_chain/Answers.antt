@@ -22,11 +22,12 @@ store-requires g c = let w = g.met.W.Word in rw (c.BYTES.ensures ∙ w.bytes_is)
 pub loop-l-preserved : goal.loop-l-preserved
 loop-l-preserved g c =
     let w = g.met.W.Word in
-    let z = g.W.Word.size in
-    (stored_more _ c.loop-l.invariant.0 c.loop-l-test.true
-    (c.store.ensures
-    ∙ ap₂ (λ (a v : ℕ). sets c.loop-l.d a (tabulate (word_bytes z) (byte_at v))) (ap (λ (b : ℕ). c.loop-l.l * b) (c.BYTES.ensures ∙ w.bytes_is)) (w.takes_each.word c.args.t c.loop-l.l _ (omega arith))),
-    c.loop-l.invariant.1)
+    let z = g.W.Word.size in (
+      stored_more _ c.loop-l.invariant.0 c.loop-l-test.true
+          (c.store.ensures
+          ∙ ap₂ (λ (a v : ℕ). sets c.loop-l.d a (tabulate (word_bytes z) (byte_at v))) (ap (λ (b : ℕ). c.loop-l.l * b) (c.BYTES.ensures ∙ w.bytes_is)) (w.takes_each.word c.args.t c.loop-l.l _ (omega arith))),
+      c.loop-l.invariant.1,
+    )
 
 pub returns : goal.returns
 returns g c = stored-all g.W.Word.size c.loop-l.invariant.0 c.loop-l-test.false (length_numbers g.met.W.Word.takes_each _ (omega arith))
