@@ -4,11 +4,11 @@ use mathlib.Core.Path.{◌≡◌, refl, sym, ap, ◌∙◌}
 use mathlib.Core.List.{List, [], ◌∷◌}
 use Prim.Native.Nat.{ℕ, zero, suc}
 use Rattle.std.proofs.lemmas.Option.{none-some}
-use Rattle.std.specs.Prelude.{Option, Some, None, Result, Ok, Err}
+use Rattle.std.specs.Prelude.{Option, Some, None}
 use Rattle.std.specs.Option.{unwrap_or}
 use Rattle.answers.specs.declared.Refusal.{Refusal}
 use Rattle.answers.specs.declared.Refusal.TheVariants.{BadWordSize, BadDigestLength, UnsoundRecord, BadLength, TooLong, BadStart, BadKeep, HeldDiffer, OpeningDiffers, BadExtraBits, BadLastByte, ShortOutput, NoReceipts, Malformed, BadRoll, FullRoll, OutOfTurn, NoWholeBytes}
-use Rattle.answers.specs.Refusal.{number, answer_of}
+use Rattle.answers.specs.Refusal.{number}
 
 -- the refusals in the order of their numbers, from 1 on
 abbrev refusals : List Refusal
@@ -29,11 +29,3 @@ own_number a b is = ap (λ (o : Option Refusal). unwrap_or o a) (sym (named a) �
 
 pub some_number : (e : Refusal) → number e ≡ 0 → ⊥
 some_number e is = none-some e (sym (ap (refusal_of refusals) is) ∙ named e)
-
-module _ {A : Type 0} where
-  -- the answer of a call, by what it gives
-  pub refused-number : {r : Result A Refusal} (e : Refusal) → r ≡ Err e → number e ≡ answer_of r
-  refused-number e is = sym (ap answer_of is)
-
-  pub accepted-number : {r : Result A Refusal} (a : A) → r ≡ Ok a → 0 ≡ answer_of r
-  accepted-number a is = sym (ap answer_of is)

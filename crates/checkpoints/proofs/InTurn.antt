@@ -1,6 +1,6 @@
 -- What the first tests of a call with a roll say of it, and what they answer in turn and out of turn; and the roll after a call, by its answer.
 -- Assumes nothing.
-use mathlib.Core.Path.{◌≡◌, refl, sym, ap, ◌∙◌}
+use mathlib.Core.Path.{◌≡◌, refl, ap, ◌∙◌}
 use mathlib.Core.Bool.{Bool, true, false, not, cond}
 use mathlib.Core.List.{List, [], ◌∷◌}
 use Prim.Native.Nat.{ℕ}
@@ -11,8 +11,8 @@ use Rattle.answers.proofs.First.{both-passed}
 use Rattle.orders.specs.declared.Record.{Record}
 use Rattle.orders.specs.declared.Outcome.{Outcome}
 use Rattle.orders.specs.Record.{sound, refused}
-use Rattle.orders.specs.Turn.{turn_answer, answered}
-use Rattle.orders.proofs.InTurn.{answered-refused, answered-rest, turn-passed}
+use Rattle.orders.specs.Turn.{turn_answer}
+use Rattle.orders.proofs.InTurn.{turn-passed}
 use Rattle.checkpoints.specs.Roll.{is_roll_of, roll_answer}
 use Rattle.checkpoints.specs.Checkpoints.{if_accepted}
 
@@ -37,12 +37,6 @@ module _ (r : Record) (out : Bool) (s : List ℕ) where
 module _ (r : Record) {out : Bool} (s : List ℕ) (rest : Outcome) {a : ℕ} {b : Bool} (which : b ≡ out) (is : a ≡ roll_answer r b s) where
   same_turn : a ≡ roll_answer r out s
   same_turn = is ∙ ap (λ (t : Bool). roll_answer r t s) which
-
-  pub roll-refused : (a ≡ 0 → ⊥) → refused a r ≡ answered (roll_answer r out s) r rest
-  roll-refused = answered-refused (roll_answer r out s) r rest same_turn
-
-  pub roll-rest : a ≡ 0 → rest ≡ answered (roll_answer r out s) r rest
-  roll-rest none = answered-rest (roll_answer r out s) r rest (sym same_turn ∙ none)
 
 module _ (o : Outcome) (changed roll : List ℕ) where
   pub roll-changed : o.number ≡ 0 → if_accepted o changed roll ≡ changed

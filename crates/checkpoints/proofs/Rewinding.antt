@@ -1,18 +1,13 @@
 -- The roll after a call that takes bytes off an order, by the number of the answer; and that such a call is accepted with a roll of the record only.
 -- Assumes nothing.
-use mathlib.Core.Path.{◌≡◌, sym, ap, ◌∙◌}
-use mathlib.Core.Bool.{Bool, true}
+use mathlib.Core.Path.{◌≡◌, sym, ◌∙◌}
 use mathlib.Core.List.{List}
 use Prim.Native.Nat.{ℕ, ◌/◌}
 use Rattle.lsh.specs.WordSize.{size_of, block_bytes}
-use Rattle.orders.specs.declared.Record.{Record}
 use Rattle.orders.specs.declared.Outcome.{Outcome}
-use Rattle.orders.specs.Turn.{answered}
-use Rattle.orders.proofs.InTurn.{answered-accepted}
-use Rattle.checkpoints.specs.Roll.{is_roll, checkpoints, roll_answer}
+use Rattle.checkpoints.specs.Roll.{checkpoints}
 use Rattle.checkpoints.specs.Checkpoints.{unlinked}
-use Rattle.checkpoints.proofs.Form.{roll-of}
-use Rattle.checkpoints.proofs.InTurn.{roll-passed, roll-changed}
+use Rattle.checkpoints.proofs.InTurn.{roll-changed}
 use Rattle.checkpoints.proofs.Shown.{cut-is}
 use Rattle.checkpoints.specs.RewindRoll.{cut_roll}
 
@@ -20,8 +15,3 @@ use Rattle.checkpoints.specs.RewindRoll.{cut_roll}
 pub roll-cut : (w : ℕ) (o : Outcome) (roll : List ℕ) → o.number ≡ 0 → unlinked (size_of w) (checkpoints w o.next.total) roll ≡ cut_roll w o roll
 unfolding cut_roll checkpoints
 roll-cut w o roll accepted = cut-is (size_of w) roll (o.next.total / block_bytes (size_of w)) ∙ sym (roll-changed o _ roll accepted)
-
-pub accepted-roll : (r : Record) (out : Bool) (roll : List ℕ) (rest : Outcome) {o : Outcome} → o ≡ answered (roll_answer r out roll) r rest → o.number ≡ 0
-    → is_roll (size_of r.w) roll ≡ true
-accepted-roll r out roll rest is accepted =
-    (roll-of r roll (roll-passed r out roll (answered-accepted (roll_answer r out roll) r rest (sym (ap (λ (x : Outcome). x.number) is) ∙ accepted)).0).2).0

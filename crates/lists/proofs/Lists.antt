@@ -1,14 +1,14 @@
 -- Lists tested number by number, and lists of zeros.
 -- Assumes nothing.
-use mathlib.Core.Path.{◌≡◌, refl, sym, ap, ap₂, ◌∙◌}
-use mathlib.Core.Bool.{Bool, true, ◌&&◌, and_assoc, and_comm}
+use mathlib.Core.Path.{◌≡◌, refl, ap, ap₂, ◌∙◌}
+use mathlib.Core.Bool.{true, ◌&&◌}
 use mathlib.Core.List.{List, [], ◌∷◌, ◌++◌}
 use Prim.Native.Nat.{ℕ, zero, suc, ◌+◌, ◌-◌, ◌≤◌, ◌<◌}
 use native.Mathlib.Nat.{zero-add, le_refl}
 use native.Mathlib.Numerals.{add-one}
 use native.Mathlib.Omega.{arith}
 use lib.Dec.{eqb, ltb}
-use lib.ListN.{length, drop, get_or, replicate, drop_of_length-le}
+use lib.ListN.{length, drop, get_or, replicate}
 use lib.Seq.{drop-cons, drop-append-add, take_all, paste}
 use borrow.Author.Tests.{eqb-true, ltb-true, lt-ltb}
 use Rattle.lsh.specs.Tabulate.{at}
@@ -20,20 +20,6 @@ use Rattle.lists.specs.ZeroFilled.{zero_filled}
 -- the test of the places from i on, by that of place i
 pub below_at : (m : ℕ) (s : List ℕ) (i : ℕ) → i < length s → all_below m (drop i s) ≡ (ltb (get_or s i 0) m && all_below m (drop (i + 1) s))
 below_at m s i h = rw (add-one, drop-cons s i 0 h)
-
-pub zero-at : (s : List ℕ) (i : ℕ) → i < length s → all_zero (drop i s) ≡ (eqb (get_or s i 0) 0 && all_zero (drop (i + 1) s))
-zero-at s i h = rw (add-one, drop-cons s i 0 h)
-
--- a loop that tests the places from at on, and has found so much before place i: the answer is that and the test of the places from i on
-abbrev pub Zeros : List ℕ → ℕ → Bool → ℕ → Type 0
-Zeros s at found i = all_zero (drop at s) ≡ (found && all_zero (drop i s))
-
-module _ (s : List ℕ) (at : ℕ) (found : Bool) (i : ℕ) (before : Zeros s at found i) where
-  pub zeros-more : i < length s → Zeros s at (found && eqb (get_or s i 0) 0) (i + 1)
-  zeros-more h = before ∙ rw (zero-at s i h) (sym (and_assoc found (eqb (get_or s i 0) 0) (all_zero (drop (i + 1) s))))
-
-  pub zeros-all : length s ≤ i → found ≡ all_zero (drop at s)
-  zeros-all h = sym (before ∙ rw (drop_of_length-le s {i = i} h) (and_comm found true))
 
 -- every place of a list whose test passes, and back
 pub at-below : (m : ℕ) (s : List ℕ) → 0 < m → all_below m s ≡ true → (l : ℕ) → at s l < m

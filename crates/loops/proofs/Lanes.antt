@@ -9,10 +9,8 @@ use native.Mathlib.Omega.{arith}
 use lib.ListN.{length, set, length-set}
 use lib.Seq.{get_or-set_same, get_or-set_other}
 use Rattle.lsh.specs.Tabulate.{at}
-use Rattle.lsh.specs.WordSize.{WordSize, alpha, beta, gamma}
-use Rattle.lsh.specs.StepConstants.{constant}
-use Rattle.lsh.specs.Lane.{Lane, lane, mix_lane, unmix_lane}
-use Rattle.lsh.specs.Step.{lane_at, lanes, mixed_lane, unmixed_lane}
+use Rattle.lsh.specs.Lane.{Lane, lane}
+use Rattle.lsh.specs.Step.{lane_at, lanes}
 use Rattle.lsh.proofs.Tabulate.{lanes-ext}
 
 -- the lanes below i are those of f
@@ -55,13 +53,3 @@ laned-more {f} {r} {i} x y h lt e =
 
 pub laned-all : {f : ℕ → Lane} {r : List ℕ} {i : ℕ} → Laned f r i → 8 ≤ i → r ≡ lanes f
 laned-all {f} {r} {i} h le = sym (lanes-ext f r h.len (λ k hk. sym (h.done k (omega arith))))
-
--- a lane with its step's constant is the lane that the step mixes, or takes apart
-module _ (z : WordSize) (j l : ℕ) (t : List ℕ) {r : Lane} {c : ℕ} (ec : c ≡ constant z j l) where
-  pub mixed-is : r ≡ mix_lane z.bits (alpha z j) (beta z j) (gamma z l) c (lane_at t l) → r ≡ mixed_lane z j t l
-  unfolding mixed_lane
-  mixed-is e = rw ec at e
-
-  pub unmixed-is : r ≡ unmix_lane z.bits (alpha z j) (beta z j) (gamma z l) c (lane_at t l) → r ≡ unmixed_lane z j t l
-  unfolding unmixed_lane
-  unmixed-is e = rw ec at e

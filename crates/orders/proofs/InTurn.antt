@@ -39,10 +39,6 @@ module _ (r : Record) {a : ℕ} {b out : Bool} (which : b ≡ out) (is : a ≡ t
   same_turn : a ≡ turn_answer r out
   same_turn = is ∙ ap (turn_answer r) which
 
-  pub turn-refused : (rest : Outcome) → (a ≡ 0 → ⊥) → refused a r ≡ in_turn r out rest
-  unfolding in_turn
-  turn-refused rest = answered-refused (turn_answer r out) r rest same_turn
-
   pub turn-passed : a ≡ 0 → (sound r ≡ true) × (out ≡ false)
   unfolding turn_answer
   turn-passed none =

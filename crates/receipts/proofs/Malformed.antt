@@ -4,7 +4,6 @@ use mathlib.Core.Path.{◌≡◌, refl, sym, ap, ◌∙◌}
 use mathlib.Core.Bool.{Bool, true, false, cond}
 use mathlib.Core.List.{List}
 use Prim.Native.Nat.{ℕ, zero, suc, ◌+◌, ◌-◌, ◌*◌, ◌≤◌, ◌<◌, zero-le}
-use native.Mathlib.Nat.{sub-zero}
 use native.Mathlib.Numerals.{add-one}
 use native.Mathlib.Decide.{ℕ_discrete}
 use native.Mathlib.Omega.{arith}
@@ -20,9 +19,6 @@ use Rattle.receipts.proofs.Places.{receipt-length}
 pub record Searched (s : List ℕ) (i : ℕ) : Type 0 where
   pub up_to : i ≤ receipt_count s
   pub rest : first_malformed s 0 (receipt_count s) ≡ first_malformed s i (receipt_count s - i)
-
-pub searched-none : (s : List ℕ) → Searched s 0
-searched-none s = record { up_to = zero-le; rest = ap (first_malformed s 0) (sym (sub-zero (receipt_count s))) }
 
 module _ (s : List ℕ) (i : ℕ) (h : Searched s i) where
   module _ (lt : i < receipt_count s) where

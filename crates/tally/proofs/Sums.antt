@@ -3,22 +3,13 @@
 use mathlib.Core.Path.{◌≡◌, refl, ap, ◌∙◌}
 use mathlib.Core.Bool.{Bool, true, false}
 use mathlib.Core.List.{List}
-use Prim.Native.Nat.{ℕ, ◌+◌, ◌*◌, ◌%◌, ◌<◌}
-use native.Mathlib.Numerals.{add-one}
-use lib.ListN.{length, drop}
-use lib.Seq.{drop-cons}
-use Rattle.lsh.specs.Tabulate.{at}
+use Prim.Native.Nat.{ℕ}
 use Rattle.lists.specs.Equal.{equal}
 use Rattle.lists.proofs.Equal.{equal-true}
 use Rattle.receipts.specs.WellFormed.{IsReceipt}
 use Rattle.receipts.specs.Same.{same_receipt}
 use Rattle.receipts.proofs.Agreement.{same-is-equal}
-use Rattle.tally.specs.Checksum.{checksum_bound, checksum, checksum_after}
-
--- the bytes from place i on, by the byte there
-pub checksum-at : (s : List ℕ) (i c : ℕ) → i < length s → checksum_after c (drop i s) ≡ checksum_after ((257 * c + at s i) % checksum_bound) (drop (i + 1) s)
-unfolding checksum_after
-checksum-at s i c h = rw (add-one, drop-cons s i 0 h)
+use Rattle.tally.specs.Checksum.{checksum}
 
 pub sums-differ : {a b : List ℕ} → IsReceipt a → IsReceipt b → (checksum a ≡ checksum b → ⊥) → same_receipt a b ≡ false
 sums-differ {a} {b} ra rb differ = same-is-equal ra rb ∙ go (equal a b) refl
