@@ -24,7 +24,7 @@ fn two_halves() -> [u32; 2 * (groups256::EXPANDED + 16)] {
     [0u32; 2 * (groups256::EXPANDED + 16)]
 }
 
-// The first 16 words of a block, or the last (7).
+// The first 16 words of a block, or the last (7). By place, as the loops of crates/steps: see there.
 fn load_row(s: &[u8], i: usize) -> [u32; 16]
     requires { (i < 2) × (length s.now ≡ block_bytes lsh256) }
     ensures { result ≡ row (words_of lsh256 32 s.now) i }

@@ -1,13 +1,13 @@
 // The step constants. The first row is stored, and the others are worked out by their rule (14).
 #![tactic(auto)]
 
-ghost use Rattle.std.specs.Prelude.{◌≡◌, ◌+◌, ◌*◌, ◌≤◌, length};
-ghost use Rattle.std.proofs.lemmas.List.Edits.{sets};
+ghost use Rattle.std.specs.Prelude.{◌≡◌, ◌*◌, length};
 ghost use Rattle.lsh.specs.StepConstants.{constants};
 ghost use Rattle.loops.specs.Constants.{next_row};
 
 use word::Word;
 
+// By place, as the loops of crates/steps: see there.
 fn next_row<W: Word>(p: [W; 8]) -> [W; 8]
     ensures { W.numbers result ≡ next_row W.size (W.numbers p) }
 {
@@ -18,15 +18,6 @@ fn next_row<W: Word>(p: [W; 8]) -> [W; 8]
     r
 }
 
-fn put_row<W: Word>(sc: &mut [W], a: usize, p: [W; 8])
-    requires { a + 8 ≤ length sc.old }
-    ensures { W.numbers sc.new ≡ sets (W.numbers sc.old) a (W.numbers p) }
-{
-    for l in 0..8 {
-        sc[a + l] = p[l];
-    }
-}
-
 // Writes them all into their room, SC_j[l] at 8j + l, row after row from the first; the row at hand stays in registers. A loop over whole rows is too long for the compiler to write
 // out: one over a single lane it worked out itself, and stored what it found. A run of blocks works them out once, and lends them on.
 pub fn write_constants<W: Word>(sc: &mut [W], first: [W; 8])
@@ -35,7 +26,7 @@ pub fn write_constants<W: Word>(sc: &mut [W], first: [W; 8])
 {
     let mut p = first;
     for j in 0..W::STEPS {
-        put_row(sc, j * 8, p);
+        word::put(sc, j * 8, p);
         let q = next_row(p);
         p = q;
     }

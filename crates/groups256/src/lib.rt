@@ -94,10 +94,7 @@ fn even_step(sc: &[u32], pw: &[u64; 32], m: &mut [u32], j: usize, t: [u32; 16]) 
         r = u;
         count += 1;
     }
-    Stepped {
-        chain: r,
-        count: count,
-    }
+    Stepped { chain: r, count }
 }
 
 // The steps from j on, below the number of steps, as long as they are odd: one at most. It is a loop since the compiler takes four words together only from one turn of a
@@ -122,13 +119,10 @@ fn odd_steps(
         r = u;
         count += 1;
     }
-    Stepped {
-        chain: r,
-        count: count,
-    }
+    Stepped { chain: r, count }
 }
 
-// The steps on the chain t, an even one and an odd one a turn, and then M_steps, for the block whose words stand first in m.
+// How far a turn comes is known when it is over, so that this loop counts itself. The steps on the chain t, an even one and an odd one a turn, and then M_steps, for the block whose words stand first in m.
 fn all_steps(sc: &[u32], pw: &[u64; 32], m: &mut [u32], steps: usize, t: [u32; 16]) -> [u32; 16]
     requires { (sc.now ≡ constants lsh256) × (pw.now ≡ powers (beta_gamma lsh256)) × (length m.old ≡ expanded_words lsh256 + 16) × (steps ≤ lsh256.steps) }
     ensures { result ≡ forward_steps lsh256 steps (take 32 m.old) t }

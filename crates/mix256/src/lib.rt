@@ -11,17 +11,12 @@ ghost use Rattle.lsh.specs.StepConstants.{constant, constants};
 ghost use Rattle.lsh.specs.Step.{mix, unmix};
 ghost use Rattle.groups.specs.Group.{group, each_word, wordwise};
 ghost use Rattle.groups.specs.GroupStep.{pair, groups, in_words, mix_pair, unmix_pair};
-ghost use Rattle.loops.specs.Fours.{four};
 ghost use Rattle.mix256.specs.Amounts.{shifts, beta_gamma, remaining, powers};
 
 use word::Word;
 
 // The groups X and Y of the same lanes.
-#[derive(Clone, Copy)]
-struct Pair {
-    x: [u32; 4],
-    y: [u32; 4],
-}
+type Pair = steps::Pair<[u32; 4]>;
 
 // The shifts of the even steps, and of the odd: alpha to the left and what is left of the width to the right, and the same of beta.
 const EVEN: [u32; 4] = [29, 3, 1, 31];
@@ -76,18 +71,6 @@ pub fn next_shifts(k: [u32; 4]) -> [u32; 4]
         18u32.subtract(k[2]),
         46u32.subtract(k[3]),
     ]
-}
-
-// Four words from place a on.
-fn four(m: &[u32], a: usize) -> [u32; 4]
-    requires { a + 4 ≤ length m.now }
-    ensures { result ≡ four m.now a }
-{
-    let mut r = [0u32; 4];
-    for i in 0..4 {
-        r[i] = m[a + i];
-    }
-    r
 }
 
 fn xor(a: [u32; 4], b: [u32; 4]) -> [u32; 4]
@@ -158,7 +141,7 @@ fn turn_by_power(x: u32, p: u64) -> u32
     ((q % 4294967296) as u32).add((q >> 32) as u32)
 }
 
-// Each word by the amount of its lane, 4l to 4l + 3, in step j: f of both, if the powers are those of f.
+// (By place, as the loops of crates/steps: see there.) Each word by the amount of its lane, 4l to 4l + 3, in step j: f of both, if the powers are those of f.
 fn turn_by_powers(pw: &[u64; 32], j: usize, l: usize, a: [u32; 4]) -> [u32; 4]
     requires { l < 2 }
     ensures { (f : ℕ → ℕ → ℕ) → ((i k : ℕ) → f i k < 32) → pw.now ≡ powers f → result ≡ wordwise (rotate_left 32) (group (f (j % 4)) l) a }
@@ -252,7 +235,8 @@ fn unmix_pair(
     }
 }
 
-// The words of four groups.
+// The words of four groups. crates/mix512 has this for words of 64 bits: a generic one would speak of the numbers of an array that is written out, of which the laws of `Word`
+// say nothing.
 fn in_words(x0: [u32; 4], x1: [u32; 4], y0: [u32; 4], y1: [u32; 4]) -> [u32; 16]
     ensures { result ≡ in_words (groups x0 x1 y0 y1) }
 {
@@ -267,11 +251,7 @@ pub fn constants(sc: &[u32], j: usize) -> [u32; 8]
     requires { (sc.now ≡ constants lsh256) × (j < lsh256.steps) }
     ensures { result ≡ tabulate 8 (constant lsh256 j) }
 {
-    let mut r = [0u32; 8];
-    for l in 0..8 {
-        r[l] = sc[j * 8 + l];
-    }
-    r
+    word::part(sc, j * 8)
 }
 
 // The mix of step j (10), whose constants are c and whose shifts are k.
@@ -279,8 +259,24 @@ pub fn mix(c: [u32; 8], pw: &[u64; 32], k: [u32; 4], j: usize, t: [u32; 16]) -> 
     requires { (c ≡ tabulate 8 (constant lsh256 j)) × (pw.now ≡ powers (beta_gamma lsh256)) × (k ≡ shifts lsh256 j) }
     ensures { result ≡ mix lsh256 j t }
 {
-    let p = mix_pair(four(&c, 0), pw, k, j, 0, four(&t, 0), four(&t, 8));
-    let q = mix_pair(four(&c, 4), pw, k, j, 1, four(&t, 4), four(&t, 12));
+    let p = mix_pair(
+        word::part(&c, 0),
+        pw,
+        k,
+        j,
+        0,
+        word::part(&t, 0),
+        word::part(&t, 8),
+    );
+    let q = mix_pair(
+        word::part(&c, 4),
+        pw,
+        k,
+        j,
+        1,
+        word::part(&t, 4),
+        word::part(&t, 12),
+    );
     let x0 = p.x;
     let x1 = q.x;
     let y0 = p.y;
@@ -292,8 +288,24 @@ pub fn unmix(c: [u32; 8], pw: &[u64; 32], k: [u32; 4], j: usize, t: [u32; 16]) -
     requires { (c ≡ tabulate 8 (constant lsh256 j)) × (pw.now ≡ powers (remaining lsh256)) × (k ≡ shifts lsh256 j) }
     ensures { result ≡ unmix lsh256 j t }
 {
-    let p = unmix_pair(four(&c, 0), pw, k, j, 0, four(&t, 0), four(&t, 8));
-    let q = unmix_pair(four(&c, 4), pw, k, j, 1, four(&t, 4), four(&t, 12));
+    let p = unmix_pair(
+        word::part(&c, 0),
+        pw,
+        k,
+        j,
+        0,
+        word::part(&t, 0),
+        word::part(&t, 8),
+    );
+    let q = unmix_pair(
+        word::part(&c, 4),
+        pw,
+        k,
+        j,
+        1,
+        word::part(&t, 4),
+        word::part(&t, 12),
+    );
     let x0 = p.x;
     let x1 = q.x;
     let y0 = p.y;

@@ -9,17 +9,12 @@ ghost use Rattle.lsh.specs.StepConstants.{constants};
 ghost use Rattle.lsh.specs.Lane.{lane, mix_lane, unmix_lane};
 ghost use Rattle.lsh.specs.Step.{mix, unmix};
 ghost use Rattle.groups.specs.Group.{group};
-ghost use Rattle.loops.specs.Fours.{four};
 ghost use Rattle.groups.specs.GroupStep.{pair, groups, in_words, mix_pair, unmix_pair};
 
 use words::Mix;
 
 // The groups X and Y of the same lanes.
-#[derive(Clone, Copy)]
-struct Pair {
-    x: [u64; 4],
-    y: [u64; 4],
-}
+type Pair = steps::Pair<[u64; 4]>;
 
 // The groups of gamma.
 const GAMMA_0: [u32; 4] = [0, 16, 32, 48];
@@ -54,18 +49,6 @@ fn gamma(l: usize) -> [u32; 4]
         return GAMMA_0;
     }
     GAMMA_1
-}
-
-// Four words from place a on.
-fn four(m: &[u64], a: usize) -> [u64; 4]
-    requires { a + 4 ≤ length m.now }
-    ensures { result ≡ four m.now a }
-{
-    let mut r = [0u64; 4];
-    for i in 0..4 {
-        r[i] = m[a + i];
-    }
-    r
 }
 
 // Word i of two groups X and Y, a lane of step j, with the groups of gamma and of the constants.
@@ -103,7 +86,7 @@ fn mix_pair(sc: &[u64], j: usize, l: usize, x: [u64; 4], y: [u64; 4]) -> Pair
     ensures { pair result.x result.y ≡ mix_pair lsh512 j l (pair x y) }
 {
     let g = gamma(l);
-    let c = four(sc, j * 8 + l * 4);
+    let c = word::part(sc, j * 8 + l * 4);
     let p = mix_word(j, g, c, x, y, 0);
     let q = mix_word(j, g, c, x, y, 1);
     let r = mix_word(j, g, c, x, y, 2);
@@ -119,7 +102,7 @@ fn unmix_pair(sc: &[u64], j: usize, l: usize, x: [u64; 4], y: [u64; 4]) -> Pair
     ensures { pair result.x result.y ≡ unmix_pair lsh512 j l (pair x y) }
 {
     let g = gamma(l);
-    let c = four(sc, j * 8 + l * 4);
+    let c = word::part(sc, j * 8 + l * 4);
     let p = unmix_word(j, g, c, x, y, 0);
     let q = unmix_word(j, g, c, x, y, 1);
     let r = unmix_word(j, g, c, x, y, 2);
@@ -152,8 +135,8 @@ impl Mix<u64> for ByGroups {
         requires { (sc.now ≡ constants lsh512) × (j < lsh512.steps) }
         ensures { result ≡ mix lsh512 j t }
     {
-        let p = mix_pair(sc, j, 0, four(&t, 0), four(&t, 8));
-        let q = mix_pair(sc, j, 1, four(&t, 4), four(&t, 12));
+        let p = mix_pair(sc, j, 0, word::part(&t, 0), word::part(&t, 8));
+        let q = mix_pair(sc, j, 1, word::part(&t, 4), word::part(&t, 12));
         in_words(p, q)
     }
 
@@ -161,8 +144,8 @@ impl Mix<u64> for ByGroups {
         requires { (sc.now ≡ constants lsh512) × (j < lsh512.steps) }
         ensures { result ≡ unmix lsh512 j t }
     {
-        let p = unmix_pair(sc, j, 0, four(&t, 0), four(&t, 8));
-        let q = unmix_pair(sc, j, 1, four(&t, 4), four(&t, 12));
+        let p = unmix_pair(sc, j, 0, word::part(&t, 0), word::part(&t, 8));
+        let q = unmix_pair(sc, j, 1, word::part(&t, 4), word::part(&t, 12));
         in_words(p, q)
     }
 }

@@ -1,16 +1,9 @@
 // The opening chains of the published functions, which are stored.
 #![tactic(auto)]
 
-ghost use Rattle.std.specs.Prelude.{◌≡◌, ◌<◌};
-ghost use Rattle.lsh.specs.Tabulate.{at};
+ghost use Rattle.std.specs.Prelude.{◌≡◌, IfSome};
 ghost use Rattle.lsh.specs.WordSize.{size_of};
 ghost use Rattle.lsh.specs.Opening.{opening};
-ghost use Rattle.published.specs.Published.{published_sizes, published_lengths};
-
-// Of each its word size, its digest length and the 16 words of its opening chain.
-const SIZES: [u64; 6] = [32, 32, 64, 64, 64, 64];
-
-const LENGTHS: [u64; 6] = [224, 256, 224, 256, 384, 512];
 
 const LSH_256_224: [u64; 16] = [
     0x068608d3, 0x62d8f7a7, 0xd76652ab, 0x4c600a43, 0xbdc40aa8, 0x1eca0b68, 0xda1a89be, 0x3147d354,
@@ -98,33 +91,18 @@ const LSH_512_512: [u64; 16] = [
     0x894085e2edb2d819,
 ];
 
-// The place of w and n among the published ones, or 6.
-pub fn place(w: u64, n: u64) -> usize
-    ensures { result < 6 → (at published_sizes result ≡ w) × (at published_lengths result ≡ n) }
+// The opening chain of the published function of a word size and a digest length, if there is one. Each is a constant of its own, since a constant is written out as a whole
+// where it is named.
+pub fn opening(w: u64, n: u64) -> Option<[u64; 16]>
+    ensures { IfSome result (λ t. t ≡ opening (size_of w) n) }
 {
-    let sizes = SIZES;
-    let lengths = LENGTHS;
-    for k in 0..6 {
-        if sizes[k] == w {
-            if lengths[k] == n {
-                return k;
-            }
-        }
-    }
-    6
-}
-
-// The opening chain of the one at place k. Each is a constant of its own, since a constant is written out as a whole where it is named.
-pub fn opening(k: usize) -> [u64; 16]
-    requires { k < 6 }
-    ensures { result ≡ opening (size_of (at published_sizes k)) (at published_lengths k) }
-{
-    match k {
-        0 => LSH_256_224,
-        1 => LSH_256_256,
-        2 => LSH_512_224,
-        3 => LSH_512_256,
-        4 => LSH_512_384,
-        _ => LSH_512_512,
+    match (w, n) {
+        (32, 224) => Some(LSH_256_224),
+        (32, 256) => Some(LSH_256_256),
+        (64, 224) => Some(LSH_512_224),
+        (64, 256) => Some(LSH_512_256),
+        (64, 384) => Some(LSH_512_384),
+        (64, 512) => Some(LSH_512_512),
+        _ => None,
     }
 }

@@ -229,11 +229,10 @@ pub fn opening(engine: Engine, w: u64, n: u64) -> [u64; 16]
     requires { (is_word_size w ≡ true) × (n ≤ 8 * w) }
     ensures { result ≡ opening (size_of w) n }
 {
-    let k = published::place(w, n);
-    if k < 6 {
-        return published::opening(k);
+    match published::opening(w, n) {
+        Some(chain) => chain,
+        None => opening_run(engine, w, n),
     }
-    opening_run(engine, w, n)
 }
 
 // A block of zeros run on the chain whose words 0 and 1 are w and n.
@@ -290,7 +289,7 @@ pub fn store_chain(w: u64, d: &mut [u8], t: [u64; 16])
     words::store_chain(d, t);
 }
 
-// The same numbers as words of 32 bits, and back.
+// The same numbers as words of 32 bits, and back. By place, as the loops of crates/steps: see there.
 fn narrow(t: [u64; 16]) -> [u32; 16]
     requires { (l : ℕ) → at t l < 2 ^ 32 }
     ensures { result ≡ t }

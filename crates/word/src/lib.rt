@@ -5,7 +5,7 @@
 ghost use Rattle.std.specs.Prelude.{◌≡◌, ◌⊎◌, refl, List, ℕ, ◌+◌, ◌<◌, ◌≤◌, length};
 ghost use Rattle.std.proofs.Common.{inl, inr};
 ghost use Rattle.std.proofs.lemmas.List.Edits.{sets};
-ghost use Rattle.lsh.specs.Tabulate.{tabulate};
+ghost use Rattle.lsh.specs.Tabulate.{at, tabulate};
 ghost use Rattle.lsh.specs.WordSize.{WordSize, lsh256, lsh512, word_bytes, chain_bytes, block_bytes};
 ghost use Rattle.lsh.specs.Word.{add, subtract, rotate_left, rotate_right, xor};
 ghost use Rattle.lsh.specs.Bytes.{word_at, byte_at};
@@ -392,4 +392,26 @@ pub fn byte(x: u64, i: u32) -> u8
     ensures { result ≡ byte_at x i }
 {
     ((x >> (8 * i)) % 256) as u8
+}
+
+// N words from place a on. This loop and the next go by place, as those of crates/steps: see there.
+pub fn part<W: Word, const N: usize>(m: &[W], a: usize) -> [W; N]
+    requires { a + N ≤ length m.now }
+    ensures { W.numbers result ≡ tabulate N (λ k. at (W.numbers m.now) (a + k)) }
+{
+    let mut r = [W::ZERO; N];
+    for l in 0..N {
+        r[l] = m[a + l];
+    }
+    r
+}
+
+// Puts words into m from place a on.
+pub fn put<W: Word, const N: usize>(m: &mut [W], a: usize, r: [W; N])
+    requires { a + N ≤ length m.old }
+    ensures { W.numbers m.new ≡ sets (W.numbers m.old) a (W.numbers r) }
+{
+    for l in 0..N {
+        m[a + l] = r[l];
+    }
 }

@@ -55,7 +55,7 @@ impl<W: Word> Mix<W> for ByWord {
 
 const TAU: [usize; 16] = [3, 2, 0, 1, 7, 4, 5, 6, 11, 10, 8, 9, 15, 12, 13, 14];
 
-// M_0 and M_1 (7): the words of a block.
+// M_0 and M_1 (7): the words of a block. The loops over words go by place, as those of crates/steps: see there.
 pub fn load_block<W: Word>(m: &mut [W], s: &[u8])
     requires { (32 ≤ length m.old) × (length s.now ≡ block_bytes W.size) }
     ensures { W.numbers m.new ≡ sets (W.numbers m.old) 0 (words_of W.size 32 s.now) }
@@ -70,22 +70,14 @@ pub fn sub_message<W: Word>(m: &[W], j: usize) -> [W; 16]
     requires { j * 16 + 16 ≤ length m.now }
     ensures { W.numbers result ≡ row (W.numbers m.now) j }
 {
-    let a = j * 16;
-    let mut r = [W::ZERO; 16];
-    for l in 0..16 {
-        r[l] = m[a + l];
-    }
-    r
+    word::part(m, j * 16)
 }
 
 pub fn put_sub_message<W: Word>(m: &mut [W], j: usize, r: [W; 16])
     requires { j * 16 + 16 ≤ length m.old }
     ensures { W.numbers m.new ≡ sets (W.numbers m.old) (j * 16) (W.numbers r) }
 {
-    let a = j * 16;
-    for l in 0..16 {
-        m[a + l] = r[l];
-    }
+    word::put(m, j * 16, r);
 }
 
 // A sub-message from the two before it, p and q (8).
@@ -257,7 +249,8 @@ fn backward_block<W: Word, M: Mix<W>>(
     some_unsteps::<W, M>(sc, m, steps, t)
 }
 
-// Runs the whole blocks of s forward, in order, on the chain t, with this number of steps each. sc and m are room for the step constants and the sub-messages.
+// Runs the whole blocks of s forward, in order, on the chain t, with this number of steps each. sc and m are room for the step constants and the sub-messages: an array whose
+// length depends on W cannot be made here. k is the number of a block, by which the law of the run goes (`RunForward`).
 pub fn forward<W: Word, M: Mix<W>>(
     sc: &mut [W],
     m: &mut [W],

@@ -9,13 +9,13 @@ loop-j-init g c = worked-none g.W.Word.size _ _ (length_numbers g.met.W.Word.tak
 pub overflow_mul-j : goal.overflow_mul-j
 overflow_mul-j g c = omega (arith, c.STEPS-j-end.ensures, g.met.W.Word.steps_is)
 
-pub put_row-requires : goal.put_row-requires
-put_row-requires g c = omega (arith, c.STEPS-j-end.ensures, g.met.W.Word.steps_is, c.loop-j.auto.sc, c.requires.0)
+pub put-requires : goal.put-requires
+put-requires g c = omega (arith, c.STEPS-j-end.ensures, g.met.W.Word.steps_is, c.loop-j.auto.sc, c.requires.0)
 
 pub loop-j-preserved : goal.loop-j-preserved
 loop-j-preserved g c =
     let w = g.met.W.Word in
-    worked-more _ _ c.loop-j.invariant (omega (arith, c.STEPS-j-end.ensures, w.steps_is)) (length_numbers w.takes_each _ c.requires.0) c.put_row.ensures c.next_row-q.ensures
+    worked-more _ _ c.loop-j.invariant (omega (arith, c.STEPS-j-end.ensures, w.steps_is)) (length_numbers w.takes_each _ c.requires.0) c.put.ensures c.next_row-q.ensures
 
 pub returns : goal.returns
 returns g c =

@@ -4,6 +4,7 @@ use native.Mathlib.Omega.{arith}
 use borrow.Author.Rules.{rules}
 use Rattle.lsh.specs.WordSize.{lsh512}
 use Rattle.lsh.proofs.Figures.{amounts512}
+use Rattle.loops.specs.Fours.{four}
 use Rattle.loops.proofs.Groups.{four-constants}
 use Rattle.loops.proofs.Pairs.{gamma-below, mixed-pair}
 use Rattle.word.specs.Own.{own}
@@ -27,13 +28,13 @@ unfolding lsh512
 mix_word-s-requires c = (gamma-below amounts512 _ c.gamma-g.ensures 3, search rules)
 
 pub returns : goal.returns
-unfolding lsh512
-returns c = mixed-pair lsh512 _ _ _ _ c.gamma-g.ensures (c.four-c.ensures ∙ four-constants lsh512 c.args.sc.now c.requires.0 _ _ c.requires.1 c.requires.2)
+unfolding lsh512 four
+returns c = mixed-pair lsh512 _ _ _ _ c.gamma-g.ensures (c.part-c.ensures ∙ four-constants lsh512 c.args.sc.now c.requires.0 _ _ c.requires.1 c.requires.2)
     c.mix_word-p.ensures c.mix_word-q.ensures c.mix_word-r.ensures c.mix_word-s.ensures
 
-pub four-c-requires : goal.four-c-requires
+pub part-c-requires : goal.part-c-requires
 unfolding lsh512
-four-c-requires c =
+part-c-requires c =
     let last : c.args.l * 4 + 3 < 8 = omega (arith, c.requires.2) in
     omega (arith, constant_inside own lsh512 c.args.sc.now c.requires.0 c.requires.1 last)
 

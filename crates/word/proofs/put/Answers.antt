@@ -1,10 +1,10 @@
 use native.Mathlib.Omega.{arith}
 use Rattle.loops.proofs.Places.{placed-none, copied_all}
 use Rattle.word.proofs.Stores.{placed_word, length_numbers}
-use Rattle.words.proofs.put_sub_message.Goals as goal
+use Rattle.word.proofs.put.Goals as goal
 
 pub loop-l-init : goal.loop-l-init
-loop-l-init g c = (placed-none 16 _ _ _, omega (arith, g.met.W.Word.takes_each.len c.args.m.now, c.requires))
+loop-l-init g c = (placed-none _ _ _ _, omega (arith, g.met.W.Word.takes_each.len c.args.m.now, c.requires))
 
 pub loop-l-preserved : goal.loop-l-preserved
 loop-l-preserved g c =
