@@ -16,12 +16,11 @@ pub struct Entry<'a> {
     // The name as it is printed, and whether it is escaped.
     text: &'a [u8],
     escaped: bool,
-    ghost short: { length text.now ≤ LINE },
 }
 
 // The parts of a line: a backslash if the name is escaped, digits, a space and the length if there is one, two spaces, and the name.
 pub fn parts(line: &[u8]) -> Option<Entry>
-    requires { length line.now ≤ LINE }
+    ensures { IfSome result (λ e. length e.text.now ≤ length line.now) }
 {
     let (escaped, rest) = match line {
         [b'\\', rest @ ..] => (true, rest),
@@ -66,7 +65,9 @@ fn cut_length(rest: &[u8]) -> Option<(Option<u64>, &[u8])>
 
 impl<'a> Entry<'a> {
     // The name; nothing where it is none, or has more bytes than a name can have. One that is escaped is read into the room.
-    pub fn name(&self, room: &'a mut [u8; LINE]) -> Option<Name<'a>> {
+    pub fn name(&self, room: &'a mut [u8; LINE]) -> Option<Name<'a>>
+        requires { length self.now.text.now ≤ LINE }
+    {
         if !self.escaped {
             return Name::new(self.text);
         }
