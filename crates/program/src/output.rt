@@ -2,15 +2,16 @@
 use crate::messages;
 use std::io::{Error, ErrorKind};
 
-// Writes all of the bytes, and answers whether that went well. If it did not, the cause is said, and the program has to end.
-pub fn write(rt: &HostRuntime, program: &[u8], bytes: &[u8]) -> bool {
-    match rt.write_all(bytes) {
-        Ok(()) => true,
-        Err(e) => {
-            say(rt, program, e);
-            false
-        }
-    }
+// What is printed could not be written, which was said.
+#[derive(Clone, Copy, Debug, PartialEq, Eq)]
+pub struct Unwritten;
+
+// Writes all of the bytes. Where that fails the cause is said, and the program has to end.
+pub fn write(rt: &HostRuntime, program: &[u8], bytes: &[u8]) -> Result<(), Unwritten> {
+    rt.write_all(bytes).map_err(|e| {
+        say(rt, program, e);
+        Unwritten
+    })
 }
 
 // Says why. Nothing is said where nobody reads the output any more.

@@ -3,12 +3,13 @@ ghost use Rattle.std.specs.Prelude.{◌≡◌, ◌+◌, ◌<◌, ◌≤◌, leng
 ghost use Rattle.receipt.specs.Found.{counted};
 
 use crate::job::Job;
-use crate::line::{LINE, Unwritten, Verdict};
+use crate::line::{LINE, Verdict};
 use crate::name::Name;
 use crate::{entry, line, messages};
 use finalization::RECEIPT;
 use fingerprint::{Fingerprint, Kind, reading};
 use program::files::Source;
+use program::output::Unwritten;
 use program::{files, lines};
 use std::io::Error;
 

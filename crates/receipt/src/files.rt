@@ -1,10 +1,10 @@
 // The files that are named: of each its line, or the check of the lines in it.
 use crate::job::Job;
-use crate::line::Unwritten;
 use crate::list::List;
 use crate::name::Name;
 use crate::{arguments, check, line, messages};
 use program::arguments::Argument;
+use program::output::Unwritten;
 use program::status::Status;
 
 // Does what is asked for with each file, and answers how that ended.

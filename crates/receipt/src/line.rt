@@ -8,6 +8,7 @@ use crate::name::Name;
 use decimal::DIGITS;
 use finalization::RECEIPT;
 use program::names::NAME;
+use program::output::Unwritten;
 use program::{names, output};
 
 // Room for the longest line: a backslash, the digits of a receipt, a space and the length, two spaces, a name each of whose bytes is escaped, and the newline;
@@ -36,10 +37,6 @@ impl Verdict {
         }
     }
 }
-
-// What is printed could not be written, which was said.
-#[derive(Clone, Copy, Debug, PartialEq, Eq)]
-pub struct Unwritten;
 
 // Prints bytes of a receipt or of a tag, the length of a file in bits if it is asked for, and its name.
 pub fn print(rt: &HostRuntime, shown: &[u8], bits: Option<u64>, name: Name) -> Result<(), Unwritten>
@@ -108,9 +105,5 @@ fn print_ended(
 
 // Writes to standard output.
 pub fn write(rt: &HostRuntime, bytes: &[u8]) -> Result<(), Unwritten> {
-    if output::write(rt, b"receipt", bytes) {
-        Ok(())
-    } else {
-        Err(Unwritten)
-    }
+    output::write(rt, b"receipt", bytes)
 }

@@ -4,9 +4,9 @@ ghost use Rattle.decimal.specs.Number.{most_digits};
 ghost use Rattle.receipts.specs.Tally.{most_receipts};
 
 use crate::line;
-use crate::line::Unwritten;
 use decimal::DIGITS;
 use finalization::RECEIPT;
+use program::output::Unwritten;
 use receipts::Kinds;
 use tally::MOST_RECEIPTS;
 

@@ -16,6 +16,7 @@ use answers::Refusal;
 use buffer::Buffer;
 use orders::{Record, Step};
 use program::lines::Lines;
+use program::output::Unwritten;
 use program::status::Status;
 use program::{arguments, files, lines, messages, status};
 use runs::Engine;
@@ -51,6 +52,26 @@ impl State {
     }
 }
 
+// Why the lines are not replayed to their end.
+#[derive(Clone, Copy)]
+enum Stop {
+    // The next one could not be read.
+    Unread(Error),
+    Unwritten,
+}
+
+impl From<Error> for Stop {
+    fn from(error: Error) -> Stop {
+        Stop::Unread(error)
+    }
+}
+
+impl From<Unwritten> for Stop {
+    fn from(_: Unwritten) -> Stop {
+        Stop::Unwritten
+    }
+}
+
 fn main(rt: HostRuntime) {
     let status = match options::read(&rt) {
         Ok(Some(i)) => named(&rt, i),
@@ -78,30 +99,29 @@ fn file(rt: &HostRuntime, name: &[u8]) -> Status {
         return Status::Failed;
     };
     match replay(rt, lines::of(source)) {
-        Ok(written) => Status::from(written),
-        Err(error) => {
+        Ok(()) => Status::Done,
+        Err(Stop::Unwritten) => Status::Failed,
+        Err(Stop::Unread(error)) => {
             messages::fail(rt, b"replay", name, error);
             Status::Failed
         }
     }
 }
 
-// Replays the lines. The answer is whether all that they print could be written.
+// Replays the lines.
 // A proved loop has to end, and nothing says that the input does, so the lines are counted up to a number that no run comes to.
-fn replay(rt: &HostRuntime, mut lines: Lines) -> Result<bool, Error> {
+fn replay(rt: &HostRuntime, mut lines: Lines) -> Result<(), Stop> {
     let mut line = room();
     let mut given = Buffer::new();
     let mut outputs = Buffer::new();
     let mut s = start();
     for k in 1..u64::MAX {
         let Some(n) = next(&mut lines, &mut line)? else {
-            return Ok(true);
+            return Ok(());
         };
-        if !answer(rt, k, n, &mut line, &mut s, &mut given, &mut outputs) {
-            return Ok(false);
-        }
+        answer(rt, k, n, &mut line, &mut s, &mut given, &mut outputs)?;
     }
-    Ok(true)
+    Ok(())
 }
 
 // Reads a line into the front of its room, as `Lines` does.
@@ -124,7 +144,7 @@ fn start() -> State {
     }
 }
 
-// Answers line k, of n bytes, and prints the answer; nothing of an empty line, and of one that begins with #. Answers whether that went well.
+// Answers line k, of n bytes, and prints the answer; nothing of an empty line, and of one that begins with #.
 fn answer(
     rt: &HostRuntime,
     k: u64,
@@ -133,13 +153,13 @@ fn answer(
     s: &mut State,
     given: &mut Buffer<BYTES>,
     outputs: &mut Buffer<BYTES>,
-) -> bool {
+) -> Result<(), Unwritten> {
     if LINE < n {
         return reply::print_fault(rt, k, line, b"too long");
     }
     let text = &line[..n];
     if matches!(text.first(), None | Some(b'#')) {
-        return true;
+        return Ok(());
     }
     match calls::answer(text, s, given, outputs) {
         Some(reply) => reply::print(rt, script::until(text, b' '), line, reply, s, outputs),
