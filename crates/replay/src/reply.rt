@@ -9,7 +9,7 @@ use crate::{BYTES, LINE, ROOM, State};
 use answers::Refusal;
 use limits::LONGEST_BLOCK;
 use orders::Record;
-use program::output;
+use program::Program;
 use program::output::Unwritten;
 use receipts::{Kinds, TallyRefusal};
 
@@ -34,7 +34,7 @@ pub enum Reply {
 
 // Prints what a call answered behind the name of its line, which stands at the front of the buffer and has so many bytes.
 pub fn print(
-    rt: &HostRuntime,
+    program: &Program,
     name: usize,
     line: &mut [u8; ROOM],
     reply: Reply,
@@ -44,12 +44,12 @@ pub fn print(
     requires { name ≤ LINE }
 {
     let end = put_reply(line, name, reply, s, outputs);
-    write(rt, line, end)
+    write(program, line, end)
 }
 
 // Prints why line k is no call.
 pub fn print_fault(
-    rt: &HostRuntime,
+    program: &Program,
     k: u64,
     line: &mut [u8; ROOM],
     fault: &[u8],
@@ -60,15 +60,15 @@ pub fn print_fault(
     let b = decimal::put_number(line, a, k);
     let c = buffers::put(line, b, b": ");
     let end = buffers::put(line, c, fault);
-    write(rt, line, end)
+    write(program, line, end)
 }
 
 // Writes the first n bytes of line and a newline, in one call where the system takes them all.
-fn write(rt: &HostRuntime, line: &mut [u8; ROOM], n: usize) -> Result<(), Unwritten>
+fn write(program: &Program, line: &mut [u8; ROOM], n: usize) -> Result<(), Unwritten>
     requires { n < ROOM }
 {
     let end = buffers::put(line, n, b"\n");
-    output::write(rt, b"replay", &line[..end])
+    program.write(&line[..end])
 }
 
 // Puts what a call answered into the buffer from a place on, and answers the place after it, as the following do.
