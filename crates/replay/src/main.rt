@@ -4,13 +4,13 @@
 mod buffer;
 mod calls;
 mod checks;
+mod line_words;
 mod options;
 mod order;
 mod outputs;
 mod records;
 mod reply;
 mod rolls;
-mod words;
 
 use answers::Refusal;
 use buffer::Buffer;
