@@ -8,6 +8,7 @@ ghost use Rattle.receipts.specs.Receipt.{receipt_bytes, digest_place, length_pla
 
 use finalization::{DIGEST, LENGTH, RECEIPT};
 use orders::Record;
+use program::Program;
 use runs::Engine;
 
 // The bytes of the longest digest, which is also the longest tag.
@@ -51,10 +52,10 @@ pub struct Kind {
 }
 
 // What is printed of the file of a name, with a key its tag; nothing where it cannot be read, which is said. A key is not empty.
-pub fn of_file(rt: &HostRuntime, k: Kind, key: Option<&[u8]>, name: &[u8]) -> Option<Fingerprint> {
+pub fn of_file(program: &Program, k: Kind, key: Option<&[u8]>, name: &[u8]) -> Option<Fingerprint> {
     let engine = runs::faster_engine(k.w);
     let opened = started(engine, k.w, k.n, key);
-    let r = reading::read_file(rt, engine, name, k.input_taken, opened)?;
+    let r = reading::read_file(program, engine, name, k.input_taken, opened)?;
     Some(match key {
         Some(key) => tagged(engine, r, bits_since(opened.total, r.total), key),
         None => of_record(engine, r, k.digest),

@@ -1,7 +1,7 @@
 // Files read in chunks, and what they hold appended to a record.
 use orders::Record;
 use program::files::Source;
-use program::{files, messages};
+use program::{Program, files};
 use runs::Engine;
 use std::io::{Error, Read};
 
@@ -21,34 +21,32 @@ impl From<Error> for Fault {
 
 // The record of a file's bytes; nothing where it makes none, which is said.
 pub fn read_file(
-    rt: &HostRuntime,
+    program: &Program,
     engine: Engine,
     name: &[u8],
     input_taken: bool,
     opened: Record,
 ) -> Option<Record> {
-    let source = open_file(rt, name, input_taken)?;
+    let source = open_file(program, name, input_taken)?;
     match read_all(engine, source, opened) {
         Ok(r) => Some(r),
         Err(fault) => {
-            say(rt, name, fault);
+            say(program, name, fault);
             None
         }
     }
 }
 
 // What a name names, or nothing where it cannot be read, which is said. Standard input that is read for something else is no file.
-pub fn open_file(rt: &HostRuntime, name: &[u8], input_taken: bool) -> Option<Source> {
+pub fn open_file(program: &Program, name: &[u8], input_taken: bool) -> Option<Source> {
     if input_taken && files::is_standard_input(name) {
-        messages::say(
-            rt,
-            b"receipt",
+        program.say(
             name,
             b"standard input is read for the key or the list already",
         );
         return None;
     }
-    files::open(rt, b"receipt", name)
+    program.open(name)
 }
 
 // A proved loop has to end, and nothing says that a file does, so the reads are counted up to a number that no run comes to.
@@ -74,12 +72,10 @@ fn append(engine: Engine, r: Record, piece: &[u8]) -> Result<Record, Fault> {
 }
 
 // Says why a file makes no record.
-fn say(rt: &HostRuntime, name: &[u8], fault: Fault) {
+fn say(program: &Program, name: &[u8], fault: Fault) {
     match fault {
-        Fault::Unread(e) => messages::fail(rt, b"receipt", name, e),
-        Fault::TooLong => messages::say(
-            rt,
-            b"receipt",
+        Fault::Unread(e) => program.fail(name, e),
+        Fault::TooLong => program.say(
             name,
             b"it has more than 2^40 bytes, the key's block counted if there is a key",
         ),

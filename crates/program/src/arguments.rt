@@ -2,7 +2,7 @@
 ghost use Rattle.std.specs.Prelude.{◌-◌, ◌≤◌, length, IfSome};
 ghost use Rattle.std.specs.Iterator.{at_most};
 
-use crate::messages;
+use crate::Program;
 use std::convert::Infallible;
 use std::env::FillError;
 use std::marker::PhantomData;
@@ -212,21 +212,20 @@ pub fn from(text: &[u8], place: usize) -> &[u8]
     text.get(place..).unwrap_or_default()
 }
 
-// Says what is wrong with argument i.
-pub fn say(rt: &HostRuntime, program: &[u8], i: usize, fault: &[u8]) {
-    let mut text = io::buffer();
-    messages::say(rt, program, get_or_empty(rt, i, &mut text), fault);
-}
+impl<'a> Program<'a> {
+    // Says what is wrong with argument i.
+    pub fn say_argument(&self, i: usize, fault: &[u8]) {
+        let mut text = io::buffer();
+        self.say(get_or_empty(self.rt, i, &mut text), fault);
+    }
 
-// Says why argument i is no option.
-pub fn say_wrong(rt: &HostRuntime, program: &[u8], i: usize, why: Wrong) {
-    match why {
-        Wrong::Unknown => say(
-            rt,
-            program,
-            i,
-            b"there is no such option; --help says what there is",
-        ),
-        Wrong::Valued => say(rt, program, i, b"this option takes no value"),
+    // Says why argument i is no option.
+    pub fn say_wrong(&self, i: usize, why: Wrong) {
+        match why {
+            Wrong::Unknown => {
+                self.say_argument(i, b"there is no such option; --help says what there is")
+            }
+            Wrong::Valued => self.say_argument(i, b"this option takes no value"),
+        }
     }
 }

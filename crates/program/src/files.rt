@@ -1,5 +1,5 @@
 // Files by name; a dash names standard input.
-use crate::messages;
+use crate::Program;
 use crate::names::NAME;
 use std::fs;
 use std::fs::File;
@@ -36,16 +36,18 @@ pub fn is_standard_input(name: &[u8]) -> bool {
     matches!(name, b"-")
 }
 
-// What a name names, or nothing where it cannot be opened, which is said.
-pub fn open(rt: &HostRuntime, program: &[u8], name: &[u8]) -> Option<Source> {
-    if is_standard_input(name) {
-        return Some(Source::Input(rt.stdin()));
-    }
-    match open_file(rt, name) {
-        Ok(file) => Some(Source::File(file)),
-        Err(e) => {
-            messages::fail(rt, program, name, e);
-            None
+impl<'a> Program<'a> {
+    // What a name names, or nothing where it cannot be opened, which is said.
+    pub fn open(&self, name: &[u8]) -> Option<Source> {
+        if is_standard_input(name) {
+            return Some(Source::Input(self.rt.stdin()));
+        }
+        match open_file(self.rt, name) {
+            Ok(file) => Some(Source::File(file)),
+            Err(e) => {
+                self.fail(name, e);
+                None
+            }
         }
     }
 }

@@ -2,8 +2,8 @@
 ghost use Rattle.std.specs.Prelude.{◌≡◌, ◌≤◌, length};
 ghost use Rattle.program.specs.Sizes.{escaped_bytes};
 
-use crate::names;
 use crate::names::NAME;
+use crate::{Program, names};
 use std::io::{Error, Write};
 
 // Room for a name each of whose bytes is escaped.
@@ -12,34 +12,43 @@ const ESCAPED: usize = 2 * NAME;
 // Room for what the system says of an error.
 const CAUSE: usize = 256;
 
-// Says what is wrong with a name.
-pub fn say(rt: &HostRuntime, program: &[u8], name: &[u8], fault: &[u8]) {
-    tell(rt, program, b"");
-    end_with(rt, name, fault);
-}
+impl<'a> Program<'a> {
+    // Says what is wrong with a name.
+    pub fn say(&self, name: &[u8], fault: &[u8]) {
+        tell(self.rt, self.name, b"");
+        end_with(self.rt, name, fault);
+    }
 
-// Says what is wrong without a name.
-pub fn say_alone(rt: &HostRuntime, program: &[u8], fault: &[u8]) {
-    tell(rt, program, fault);
-    write(rt, b"\n");
-}
+    // Says what is wrong without a name.
+    pub fn say_alone(&self, fault: &[u8]) {
+        tell(self.rt, self.name, fault);
+        write(self.rt, b"\n");
+    }
 
-// Says what is wrong with the value of an option.
-pub fn say_value(rt: &HostRuntime, program: &[u8], option: &[u8], value: &[u8], fault: &[u8]) {
-    tell(rt, program, option);
-    write(rt, b" ");
-    end_with(rt, value, fault);
-}
+    // Says what is wrong with the value of an option.
+    pub fn say_value(&self, option: &[u8], value: &[u8], fault: &[u8]) {
+        tell(self.rt, self.name, option);
+        write(self.rt, b" ");
+        end_with(self.rt, value, fault);
+    }
 
-// Says how many there are of something that is wrong with a name.
-pub fn say_count(rt: &HostRuntime, program: &[u8], name: &[u8], count: u64, fault: &[u8]) {
-    tell(rt, program, b"");
-    write_name(rt, name);
-    write(rt, b": ");
-    write_number(rt, count);
-    write(rt, b" ");
-    write(rt, fault);
-    write(rt, b"\n");
+    // Says how many there are of something that is wrong with a name.
+    pub fn say_count(&self, name: &[u8], count: u64, fault: &[u8]) {
+        tell(self.rt, self.name, b"");
+        write_name(self.rt, name);
+        write(self.rt, b": ");
+        write_number(self.rt, count);
+        write(self.rt, b" ");
+        write(self.rt, fault);
+        write(self.rt, b"\n");
+    }
+
+    // Says why the system refused a call on a file.
+    pub fn fail(&self, name: &[u8], error: Error) {
+        tell(self.rt, self.name, b"");
+        write_name(self.rt, name);
+        write_cause(self.rt, b"", error);
+    }
 }
 
 // The name and the fault that a message ends with.
@@ -54,13 +63,6 @@ fn write_name(rt: &HostRuntime, name: &[u8]) {
     let mut text = buffer();
     let n = escape(name, &mut text);
     write(rt, &text[..n]);
-}
-
-// Says why the system refused a call on a file.
-pub fn fail(rt: &HostRuntime, program: &[u8], name: &[u8], error: Error) {
-    tell(rt, program, b"");
-    write_name(rt, name);
-    write_cause(rt, b"", error);
 }
 
 // A line that ends with what failed, a colon, and what the system says of the error.

@@ -1,23 +1,26 @@
 // Standard output.
-use crate::messages;
+use crate::{Program, messages};
 use std::io::{Error, ErrorKind};
 
-// Writes all of the bytes, and answers whether that went well. If it did not, the cause is said, and the program has to end.
-pub fn write(rt: &HostRuntime, program: &[u8], bytes: &[u8]) -> bool {
-    match rt.write_all(bytes) {
-        Ok(()) => true,
-        Err(e) => {
-            say(rt, program, e);
-            false
-        }
-    }
-}
+// What is printed could not be written, which was said.
+#[derive(Clone, Copy, Debug, PartialEq, Eq)]
+pub struct Unwritten;
 
-// Says why. Nothing is said where nobody reads the output any more.
-fn say(rt: &HostRuntime, program: &[u8], error: Error) {
-    if error.kind() == ErrorKind::BrokenPipe {
-        return;
+impl<'a> Program<'a> {
+    // Writes all of the bytes. Where that fails the cause is said, and the program has to end.
+    pub fn write(&self, bytes: &[u8]) -> Result<(), Unwritten> {
+        self.rt.write_all(bytes).map_err(|e| {
+            self.say_unwritten(e);
+            Unwritten
+        })
     }
-    messages::write(rt, program);
-    messages::write_cause(rt, b": the output cannot be written", error);
+
+    // Says why. Nothing is said where nobody reads the output any more.
+    fn say_unwritten(&self, error: Error) {
+        if error.kind() == ErrorKind::BrokenPipe {
+            return;
+        }
+        messages::write(self.rt, self.name);
+        messages::write_cause(self.rt, b": the output cannot be written", error);
+    }
 }

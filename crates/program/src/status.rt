@@ -1,6 +1,6 @@
 // How a program ended. It writes a word to a descriptor of its own, and kiosk makes the status of it, since two of the words ask kiosk for more than a
 // status. A program that died has written none.
-use crate::messages;
+use crate::{Program, messages};
 use std::fs::OpenOptions;
 use std::io::Write;
 
@@ -28,31 +28,33 @@ impl From<bool> for Status {
 // The descriptor of the word, a number that a caller hardly has in use. The system shows each descriptor of a process as a file.
 const WORD: &str = "/proc/self/fd/99";
 
-// Says how the program of a name ended.
-pub fn end(rt: &HostRuntime, program: &[u8], status: Status) {
-    match status {
-        Status::Done => write(rt, b"0\n"),
-        Status::Failed => write(rt, b"1\n"),
-        Status::Misused => write(rt, b"2\n"),
-        Status::Help => ask(rt, program, b"help\n"),
-        Status::Version => ask(rt, program, b"version\n"),
+impl<'a> Program<'a> {
+    // Says how the program ended.
+    pub fn end(&self, status: Status) {
+        match status {
+            Status::Done => write(self.rt, b"0\n"),
+            Status::Failed => write(self.rt, b"1\n"),
+            Status::Misused => write(self.rt, b"2\n"),
+            Status::Help => self.ask(b"help\n"),
+            Status::Version => self.ask(b"version\n"),
+        }
+    }
+
+    // Asks kiosk. Where the program was started without it, that is said.
+    fn ask(&self, word: &[u8]) {
+        if write_word(self.rt, word).is_err() {
+            messages::write(self.rt, self.name);
+            messages::write(
+                self.rt,
+                b": run it by kiosk, which has the help and the version\n",
+            );
+        }
     }
 }
 
 // Where the program was started without kiosk, nobody reads the word.
 fn write(rt: &HostRuntime, word: &[u8]) {
     let _ = write_word(rt, word);
-}
-
-// Asks kiosk. Where the program was started without it, that is said.
-fn ask(rt: &HostRuntime, program: &[u8], word: &[u8]) {
-    if write_word(rt, word).is_err() {
-        messages::write(rt, program);
-        messages::write(
-            rt,
-            b": run it by kiosk, which has the help and the version\n",
-        );
-    }
 }
 
 fn write_word(rt: &HostRuntime, word: &[u8]) -> std::io::Result<()> {

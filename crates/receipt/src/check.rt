@@ -3,13 +3,14 @@ ghost use Rattle.std.specs.Prelude.{◌≡◌, ◌+◌, ◌<◌, ◌≤◌, leng
 ghost use Rattle.receipt.specs.Found.{counted};
 
 use crate::job::Job;
-use crate::line::{LINE, Unwritten, Verdict};
+use crate::line::{LINE, Verdict};
 use crate::name::Name;
-use crate::{entry, line, messages};
+use crate::{entry, line};
 use finalization::RECEIPT;
 use fingerprint::{Fingerprint, Kind, reading};
 use program::files::Source;
-use program::{files, lines};
+use program::output::Unwritten;
+use program::{Program, files, lines};
 use std::io::Error;
 
 // What is found of a line.
@@ -45,13 +46,13 @@ enum Listed<'a> {
 
 // Checks the lines of the list of a name, and answers whether all are right.
 pub fn list(job: &Job, name: Name) -> Result<bool, Unwritten> {
-    let Some(source) = reading::open_file(job.rt, name.bytes, job.input_taken) else {
+    let Some(source) = reading::open_file(&job.program, name.bytes, job.input_taken) else {
         return Ok(false);
     };
     let mut job = *job;
     job.input_taken |= files::is_standard_input(name.bytes);
     let found = each(&job, source)?;
-    Ok(verdict(job.rt, name.bytes, found))
+    Ok(verdict(&job.program, name.bytes, found))
 }
 
 fn each(job: &Job, source: Source) -> Result<Found, Unwritten> {
@@ -146,13 +147,13 @@ fn entry_of(job: &Job, line: &[u8]) -> Result<Finding, Unwritten>
         return Ok(Finding::NoLine);
     };
     let verdict = file(job, listed, entry.bits, name);
-    line::print_verdict(job.rt, name, verdict)?;
+    line::print_verdict(&job.program, name, verdict)?;
     Ok(Finding::Checked(verdict))
 }
 
 // Whether the file of a name is as listed. A receipt is that of the file with its own w and n.
 fn file(job: &Job, listed: Listed, bits: Option<u64>, name: Name) -> Verdict {
-    match fingerprint::of_file(job.rt, listed.kind(job), job.key, name.bytes) {
+    match fingerprint::of_file(&job.program, listed.kind(job), job.key, name.bytes) {
         Some(f) if bits.unwrap_or(f.bits) == f.bits && listed.agrees(f) => Verdict::Right,
         Some(_) => Verdict::Wrong,
         None => Verdict::Unread,
@@ -204,36 +205,36 @@ fn is_receipt(bytes: &[u8; RECEIPT]) -> bool {
 }
 
 // Says what was found in the list of a name, and answers whether all of it is right.
-fn verdict(rt: &HostRuntime, name: &[u8], found: Found) -> bool {
+fn verdict(program: &Program, name: &[u8], found: Found) -> bool {
     if let Some(e) = found.failed {
-        messages::fail(rt, name, e);
+        program.fail(name, e);
     }
-    say_count(rt, name, found.wrong, b"file failed", b"files failed");
+    say_count(program, name, found.wrong, b"file failed", b"files failed");
     say_count(
-        rt,
+        program,
         name,
         found.unread,
         b"file could not be read",
         b"files could not be read",
     );
     say_count(
-        rt,
+        program,
         name,
         found.no_line,
         b"line is not as it is printed without --check",
         b"lines are not as they are printed without --check",
     );
     if found.is_empty() && found.failed.is_none() {
-        messages::say(rt, name, b"there is no line to check in it");
+        program.say(name, b"there is no line to check in it");
     }
     found.is_right()
 }
 
 // Says how many lines there are of a kind, if there are any.
-fn say_count(rt: &HostRuntime, name: &[u8], count: u64, one: &[u8], more: &[u8]) {
+fn say_count(program: &Program, name: &[u8], count: u64, one: &[u8], more: &[u8]) {
     match count {
         0 => {}
-        1 => messages::count_wrong(rt, name, count, one),
-        _ => messages::count_wrong(rt, name, count, more),
+        1 => program.say_count(name, count, one),
+        _ => program.say_count(name, count, more),
     }
 }

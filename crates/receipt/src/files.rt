@@ -1,10 +1,10 @@
 // The files that are named: of each its line, or the check of the lines in it.
 use crate::job::Job;
-use crate::line::Unwritten;
 use crate::list::List;
 use crate::name::Name;
-use crate::{arguments, check, line, messages};
+use crate::{arguments, check, line};
 use program::arguments::Argument;
+use program::output::Unwritten;
 use program::status::Status;
 
 // Does what is asked for with each file, and answers how that ended.
@@ -17,7 +17,7 @@ fn all_well(job: &Job) -> Result<bool, Unwritten> {
     let mut list = List::new();
     let good = each(job, &mut list)?;
     if job.asked.tally {
-        list.print_tally(job.rt)?;
+        list.print_tally(&job.program)?;
     }
     Ok(good)
 }
@@ -25,7 +25,7 @@ fn all_well(job: &Job) -> Result<bool, Unwritten> {
 // Whether all goes well with each file. The receipts that are made are put into the list.
 fn each(job: &Job, list: &mut List) -> Result<bool, Unwritten> {
     let mut good = true;
-    for argument in arguments::all(job.rt) {
+    for argument in arguments::all(job.program.rt) {
         if let Argument::File(i) = argument {
             good &= of_argument(job, i, list)?;
         }
@@ -36,10 +36,10 @@ fn each(job: &Job, list: &mut List) -> Result<bool, Unwritten> {
 // Does what is asked for with the file that argument i names.
 fn of_argument(job: &Job, i: usize, list: &mut List) -> Result<bool, Unwritten> {
     let mut text = io::buffer();
-    match program::arguments::get(job.rt, i, &mut text) {
+    match program::arguments::get(job.program.rt, i, &mut text) {
         Some(bytes) => named(job, Name { bytes }, list),
         None => {
-            messages::say_alone(job.rt, b"a file's name is too long");
+            job.program.say_alone(b"a file's name is too long");
             Ok(false)
         }
     }
@@ -55,11 +55,11 @@ fn named(job: &Job, name: Name, list: &mut List) -> Result<bool, Unwritten> {
 
 // Prints the line of a file.
 fn print(job: &Job, name: Name, list: &mut List) -> Result<bool, Unwritten> {
-    let Some(f) = fingerprint::of_file(job.rt, job.kind(), job.key, name.bytes) else {
+    let Some(f) = fingerprint::of_file(&job.program, job.kind(), job.key, name.bytes) else {
         return Ok(false);
     };
     let bits = job.asked.length.then_some(f.bits);
-    line::print(job.rt, f.shown(), bits, name)?;
+    line::print(&job.program, f.shown(), bits, name)?;
     list.keep(f.receipt());
     Ok(true)
 }

@@ -1,10 +1,11 @@
 // What is to be done with each file.
 use crate::options::Asked;
 use fingerprint::Kind;
+use program::Program;
 
 #[derive(Clone, Copy)]
 pub struct Job<'a> {
-    pub rt: &'a HostRuntime,
+    pub program: Program<'a>,
     pub asked: Asked,
     // The key, if there is one: tags are made then.
     pub key: Option<&'a [u8]>,
@@ -13,9 +14,9 @@ pub struct Job<'a> {
 }
 
 impl<'a> Job<'a> {
-    pub fn without_key(rt: &'a HostRuntime, asked: Asked) -> Job<'a> {
+    pub fn without_key(program: Program<'a>, asked: Asked) -> Job<'a> {
         Job {
-            rt,
+            program,
             asked,
             key: None,
             input_taken: false,
@@ -23,14 +24,14 @@ impl<'a> Job<'a> {
     }
 
     pub fn with_key(
-        rt: &'a HostRuntime,
+        program: Program<'a>,
         asked: Asked,
         key: &'a [u8],
         input_taken: bool,
     ) -> Job<'a> {
         let key = Some(key);
         Job {
-            rt,
+            program,
             asked,
             key,
             input_taken,

@@ -1,10 +1,9 @@
 // The key, read from its file.
 ghost use Rattle.std.specs.Prelude.{◌≤◌, length, IfOk};
 
-use crate::messages;
 use program::arguments::Start;
 use program::files::Source;
-use program::{arguments, files};
+use program::{Program, arguments, files};
 use std::io::{Read, Result};
 
 // The most bytes of a key. There is room for one more, by which a longer key is found out.
@@ -21,43 +20,43 @@ pub struct Key<'a> {
 }
 
 // Reads the key into the room from the file that an option names; nothing where that makes no key, which is said.
-pub fn read<'a>(rt: &HostRuntime, file: Start, room: &'a mut [u8; ROOM]) -> Option<Key<'a>> {
+pub fn read<'a>(program: &Program, file: Start, room: &'a mut [u8; ROOM]) -> Option<Key<'a>> {
     let mut text = io::buffer();
-    match arguments::get(rt, file.argument, &mut text) {
-        Some(path) => named(rt, arguments::from(path, file.byte), room),
+    match arguments::get(program.rt, file.argument, &mut text) {
+        Some(path) => named(program, arguments::from(path, file.byte), room),
         None => {
-            messages::say(rt, b"--key", b"the file's name is too long");
+            program.say(b"--key", b"the file's name is too long");
             None
         }
     }
 }
 
 // The same for a file of a name.
-fn named<'a>(rt: &HostRuntime, name: &[u8], room: &'a mut [u8; ROOM]) -> Option<Key<'a>> {
-    let mut source = files::open(rt, b"receipt", name)?;
+fn named<'a>(program: &Program, name: &[u8], room: &'a mut [u8; ROOM]) -> Option<Key<'a>> {
+    let mut source = program.open(name)?;
     let filled = fill(&mut source, room);
     files::close(source);
     match filled {
-        Ok(size) if is_right(rt, name, size) => Some(Key {
+        Ok(size) if is_right(program, name, size) => Some(Key {
             bytes: &room[..size],
             is_input: files::is_standard_input(name),
         }),
         Ok(_) => None,
         Err(e) => {
-            messages::fail(rt, name, e);
+            program.fail(name, e);
             None
         }
     }
 }
 
 // Whether so many bytes make a key; says what is wrong if not.
-fn is_right(rt: &HostRuntime, name: &[u8], size: usize) -> bool {
+fn is_right(program: &Program, name: &[u8], size: usize) -> bool {
     if size == 0 {
-        messages::say(rt, name, b"the key is empty");
+        program.say(name, b"the key is empty");
         return false;
     }
     if KEY < size {
-        messages::say(rt, name, b"the key has more than 65536 bytes");
+        program.say(name, b"the key has more than 65536 bytes");
         return false;
     }
     true

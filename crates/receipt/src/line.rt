@@ -8,7 +8,8 @@ use crate::name::Name;
 use decimal::DIGITS;
 use finalization::RECEIPT;
 use program::names::NAME;
-use program::{names, output};
+use program::output::Unwritten;
+use program::{Program, names};
 
 // Room for the longest line: a backslash, the digits of a receipt, a space and the length, two spaces, a name each of whose bytes is escaped, and the newline;
 // `text::put_bytes` asks for one more.
@@ -37,24 +38,25 @@ impl Verdict {
     }
 }
 
-// What is printed could not be written, which was said.
-#[derive(Clone, Copy, Debug, PartialEq, Eq)]
-pub struct Unwritten;
-
 // Prints bytes of a receipt or of a tag, the length of a file in bits if it is asked for, and its name.
-pub fn print(rt: &HostRuntime, shown: &[u8], bits: Option<u64>, name: Name) -> Result<(), Unwritten>
+pub fn print(
+    program: &Program,
+    shown: &[u8],
+    bits: Option<u64>,
+    name: Name,
+) -> Result<(), Unwritten>
     requires { length shown.now ≤ receipt_bytes }
 {
     let mut line = [0; LINE];
     let end = put(&mut line, shown, bits, name);
-    print_ended(rt, &mut line, end, name)
+    print_ended(program, &mut line, end, name)
 }
 
 // Prints a name and what a check found of it.
-pub fn print_verdict(rt: &HostRuntime, name: Name, verdict: Verdict) -> Result<(), Unwritten> {
+pub fn print_verdict(program: &Program, name: Name, verdict: Verdict) -> Result<(), Unwritten> {
     let mut line = [0; LINE];
     let end = put_verdict(&mut line, name, verdict);
-    print_ended(rt, &mut line, end, name)
+    print_ended(program, &mut line, end, name)
 }
 
 // Puts what a line shows into its room, after the place of a backslash, and answers where the newline comes.
@@ -93,7 +95,7 @@ fn put_length(line: &mut [u8], from: usize, bits: Option<u64>) -> usize
 
 // Ends a line of a name, and prints it. As sha256sum does, a line whose name has an escaped byte begins with a backslash.
 fn print_ended(
-    rt: &HostRuntime,
+    program: &Program,
     line: &mut [u8; LINE],
     end: usize,
     name: Name,
@@ -103,14 +105,5 @@ fn print_ended(
     line[0] = b'\\';
     line[end] = b'\n';
     let begin = names::is_plain(name.bytes) as usize;
-    write(rt, &line[begin..=end])
-}
-
-// Writes to standard output.
-pub fn write(rt: &HostRuntime, bytes: &[u8]) -> Result<(), Unwritten> {
-    if output::write(rt, b"receipt", bytes) {
-        Ok(())
-    } else {
-        Err(Unwritten)
-    }
+    program.write(&line[begin..=end])
 }

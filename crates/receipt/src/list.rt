@@ -3,10 +3,10 @@ ghost use Rattle.std.specs.Prelude.{◌+◌, ◌≤◌, length};
 ghost use Rattle.decimal.specs.Number.{most_digits};
 ghost use Rattle.receipts.specs.Tally.{most_receipts};
 
-use crate::line;
-use crate::line::Unwritten;
 use decimal::DIGITS;
 use finalization::RECEIPT;
+use program::Program;
+use program::output::Unwritten;
 use receipts::Kinds;
 use tally::MOST_RECEIPTS;
 
@@ -41,10 +41,10 @@ impl List {
 
     // Prints the last line: the tally of the receipts; zeros where the call is refused.
     #[tactic(auto, unfolding(receipts::specs::Tally::most_receipts))]
-    pub fn print_tally(&self, rt: &HostRuntime) -> Result<(), Unwritten> {
+    pub fn print_tally(&self, program: &Program) -> Result<(), Unwritten> {
         let answer = tally::tally(self.receipts[..self.count].as_flattened());
         print_counts(
-            rt,
+            program,
             answer.unwrap_or(Kinds {
                 firsts: 0,
                 reprints: 0,
@@ -54,13 +54,13 @@ impl List {
     }
 }
 
-fn print_counts(rt: &HostRuntime, kinds: Kinds) -> Result<(), Unwritten> {
+fn print_counts(program: &Program, kinds: Kinds) -> Result<(), Unwritten> {
     let mut line = [0u8; COUNTS];
     let firsts = put_count(&mut line, 0, b"firsts ", kinds.firsts);
     let reprints = put_count(&mut line, firsts, b" reprints ", kinds.reprints);
     let blanks = put_count(&mut line, reprints, b" blanks ", kinds.blanks);
     let end = buffers::put(&mut line, blanks, b"\n");
-    line::write(rt, &line[..end])
+    program.write(&line[..end])
 }
 
 // Words and a count, from a place on.

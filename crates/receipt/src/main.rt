@@ -10,37 +10,37 @@ mod job;
 mod key;
 mod line;
 mod list;
-mod messages;
 mod name;
 mod options;
 
 use job::Job;
 use options::Asked;
+use program::Program;
 use program::arguments::Start;
-use program::status;
 use program::status::Status;
 
 fn main(rt: HostRuntime) {
-    let s = match options::read(&rt) {
-        Ok(asked) => run(&rt, asked),
+    let program = Program::new(&rt, b"receipt");
+    let s = match options::read(&program) {
+        Ok(asked) => run(&program, asked),
         Err(s) => s,
     };
-    status::end(&rt, b"receipt", s);
+    program.end(s);
 }
 
 // Does what is asked for, and answers how it ended.
-fn run(rt: &HostRuntime, asked: Asked) -> Status {
+fn run(program: &Program, asked: Asked) -> Status {
     match asked.key {
-        Some(file) => with_key(rt, asked, file),
-        None => files::all(&Job::without_key(rt, asked)),
+        Some(file) => with_key(program, asked, file),
+        None => files::all(&Job::without_key(*program, asked)),
     }
 }
 
 // Reads the key from the file that an option names, and goes on if that went well.
-fn with_key(rt: &HostRuntime, asked: Asked, file: Start) -> Status {
+fn with_key(program: &Program, asked: Asked, file: Start) -> Status {
     let mut room = [0; key::ROOM];
-    match key::read(rt, file, &mut room) {
-        Some(key) => files::all(&Job::with_key(rt, asked, key.bytes, key.is_input)),
+    match key::read(program, file, &mut room) {
+        Some(key) => files::all(&Job::with_key(*program, asked, key.bytes, key.is_input)),
         None => Status::Failed,
     }
 }

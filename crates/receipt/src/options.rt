@@ -1,6 +1,8 @@
 // What the options ask for, and whether they suit each other.
+use crate::arguments;
 use crate::arguments::{Flag, Is, Valued};
-use crate::{arguments, messages};
+use decimal::DIGITS;
+use program::Program;
 use program::arguments::{Argument, Start, from};
 use program::status::Status;
 
@@ -20,19 +22,19 @@ pub struct Asked {
 }
 
 // What is asked for; or, where an option is wrong or asks for something else, how the program ends.
-pub fn read(rt: &HostRuntime) -> Result<Asked, Status> {
-    let asked = read_all(rt)?;
-    if is_right(rt, &asked) {
+pub fn read(program: &Program) -> Result<Asked, Status> {
+    let asked = read_all(program)?;
+    if is_right(program, &asked) {
         Ok(asked)
     } else {
         Err(Status::Misused)
     }
 }
 
-fn read_all(rt: &HostRuntime) -> Result<Asked, Status> {
+fn read_all(program: &Program) -> Result<Asked, Status> {
     let mut asked = Asked::nothing();
-    for argument in arguments::all(rt) {
-        asked.take(rt, argument)?;
+    for argument in arguments::all(program.rt) {
+        asked.take(program, argument)?;
     }
     Ok(asked)
 }
@@ -52,14 +54,14 @@ impl Asked {
     }
 
     // Takes one argument in.
-    fn take(&mut self, rt: &HostRuntime, argument: Is) -> Result<(), Status> {
+    fn take(&mut self, program: &Program, argument: Is) -> Result<(), Status> {
         match argument {
             Argument::Flag(flag) => self.set(flag)?,
-            Argument::Valued(Valued::WordSize, start) => self.w = word_size(rt, start)?,
-            Argument::Valued(Valued::Bits, start) => self.n = Some(bits(rt, start)?),
-            Argument::Valued(Valued::Key, start) => self.key = Some(key_file(rt, start)?),
+            Argument::Valued(Valued::WordSize, start) => self.w = word_size(program, start)?,
+            Argument::Valued(Valued::Bits, start) => self.n = Some(bits(program, start)?),
+            Argument::Valued(Valued::Key, start) => self.key = Some(key_file(program, start)?),
             Argument::Wrong(i, why) => {
-                program::arguments::say_wrong(rt, b"receipt", i, why);
+                program.say_wrong(i, why);
                 return Err(Status::Misused);
             }
             Argument::File(_) => self.files = self.files.saturating_add(1),
@@ -91,54 +93,61 @@ impl Asked {
 }
 
 // The option -w.
-fn word_size(rt: &HostRuntime, start: Start) -> Result<u64, Status> {
-    let w = number(rt, b"-w", start)?;
+fn word_size(program: &Program, start: Start) -> Result<u64, Status> {
+    let w = number(program, b"-w", start)?;
     if !runs::is_word_size(w) {
-        messages::number_wrong(rt, b"-w", w, b"the word size is 32 or 64");
+        number_wrong(program, b"-w", w, b"the word size is 32 or 64");
         return Err(Status::Misused);
     }
     Ok(w)
 }
 
 // The option -n. Whether its value suits the word size is known after all options.
-fn bits(rt: &HostRuntime, start: Start) -> Result<u64, Status> {
-    let n = number(rt, b"-n", start)?;
+fn bits(program: &Program, start: Start) -> Result<u64, Status> {
+    let n = number(program, b"-n", start)?;
     if n == 0 {
-        messages::number_wrong(rt, b"-n", 0, b"a digest has 1 bit at least");
+        number_wrong(program, b"-n", 0, b"a digest has 1 bit at least");
         return Err(Status::Misused);
     }
     Ok(n)
 }
 
 // The value of an option as a number; says what is wrong if it is none.
-fn number(rt: &HostRuntime, option: &[u8], start: Start) -> Result<u64, Status> {
+fn number(program: &Program, option: &[u8], start: Start) -> Result<u64, Status> {
     let mut room = io::buffer();
-    let Some(text) = program::arguments::get(rt, start.argument, &mut room) else {
-        messages::say(rt, option, b"a number is missing after it");
+    let Some(text) = program::arguments::get(program.rt, start.argument, &mut room) else {
+        program.say(option, b"a number is missing after it");
         return Err(Status::Misused);
     };
     let value = from(text, start.byte);
     script::read_number(value).ok_or_else(|| {
-        messages::value_wrong(rt, option, value, b"this is no number, or is too large");
+        program.say_value(option, value, b"this is no number, or is too large");
         Status::Misused
     })
 }
 
+// Says what is wrong with a number that is the value of an option.
+fn number_wrong(program: &Program, option: &[u8], value: u64, fault: &[u8]) {
+    let mut digits = [0u8; DIGITS];
+    let n = io::decimal(value, &mut digits);
+    program.say_value(option, &digits[..n], fault);
+}
+
 // The option --key. Its file is read after all options.
-fn key_file(rt: &HostRuntime, start: Start) -> Result<Start, Status> {
-    if program::arguments::is_missing(rt, start.argument) {
-        messages::say(rt, b"--key", b"a file is missing after it");
+fn key_file(program: &Program, start: Start) -> Result<Start, Status> {
+    if program::arguments::is_missing(program.rt, start.argument) {
+        program.say(b"--key", b"a file is missing after it");
         return Err(Status::Misused);
     }
     Ok(start)
 }
 
 // Whether a file is named and the options suit each other; says what is wrong if not.
-fn is_right(rt: &HostRuntime, asked: &Asked) -> bool {
+fn is_right(program: &Program, asked: &Asked) -> bool {
     let n = asked.digest_length();
     if runs::longest_digest(asked.w) < n {
-        messages::number_wrong(
-            rt,
+        number_wrong(
+            program,
             b"-n",
             n,
             b"a digest has 1 bit at least and 8 times the word size at most",
@@ -146,35 +155,32 @@ fn is_right(rt: &HostRuntime, asked: &Asked) -> bool {
         return false;
     }
     if asked.files == 0 {
-        messages::say_alone(rt, b"no file is named; --help says what there is");
+        program.say_alone(b"no file is named; --help says what there is");
         return false;
     }
     if asked.key.is_some() && n % 8 != 0 {
-        messages::number_wrong(
-            rt,
+        number_wrong(
+            program,
             b"-n",
             n,
             b"with --key a digest has a multiple of 8 bits",
         );
         return false;
     }
-    !asked.tally || suits_tally(rt, asked)
+    !asked.tally || suits_tally(program, asked)
 }
 
-fn suits_tally(rt: &HostRuntime, asked: &Asked) -> bool {
+fn suits_tally(program: &Program, asked: &Asked) -> bool {
     if asked.key.is_some() {
-        messages::say_alone(rt, b"--tally counts receipts, and with --key none are made");
+        program.say_alone(b"--tally counts receipts, and with --key none are made");
         return false;
     }
     if asked.check {
-        messages::say_alone(
-            rt,
-            b"--tally counts receipts, and with --check none are printed",
-        );
+        program.say_alone(b"--tally counts receipts, and with --check none are printed");
         return false;
     }
     if tally::MOST_RECEIPTS < asked.files {
-        messages::say_alone(rt, b"--tally takes 960 files at most");
+        program.say_alone(b"--tally takes 960 files at most");
         return false;
     }
     true

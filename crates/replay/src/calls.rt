@@ -1,8 +1,8 @@
 // The lines, by the file that answers each.
 use crate::buffer::Buffer;
+use crate::line_words::Words;
 use crate::reply::Reply;
-use crate::words::Words;
-use crate::{BYTES, State, checks, order, outputs, records, rolls, words};
+use crate::{BYTES, State, checks, line_words, order, outputs, records, rolls};
 use faults::Wanted;
 
 // A line that is a call.
@@ -53,7 +53,7 @@ pub fn answer(
     outputs: &mut Buffer<BYTES>,
 ) -> Option<Reply> {
     let kind = Line::of_name(script::word(line, 0))?;
-    let values = words::read(line, kind.form(), given, outputs)?;
+    let values = line_words::read(line, kind.form(), given, outputs)?;
     in_file(
         kind,
         Words::new(values, given.bytes()),

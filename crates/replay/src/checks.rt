@@ -1,6 +1,6 @@
 // The lines whose call only answers: it writes nothing, and returns no record.
+use crate::line_words::Words;
 use crate::reply::Reply;
-use crate::words::Words;
 use faults::Wanted;
 use runs::Engine;
 

@@ -4,20 +4,21 @@
 mod buffer;
 mod calls;
 mod checks;
+mod line_words;
 mod options;
 mod order;
 mod outputs;
 mod records;
 mod reply;
 mod rolls;
-mod words;
 
 use answers::Refusal;
 use buffer::Buffer;
 use orders::{Record, Step};
 use program::lines::Lines;
+use program::output::Unwritten;
 use program::status::Status;
-use program::{arguments, files, lines, messages, status};
+use program::{Program, arguments, lines};
 use runs::Engine;
 use script::ROLL;
 use std::io::Error;
@@ -51,57 +52,77 @@ impl State {
     }
 }
 
+// Why the lines are not replayed to their end.
+#[derive(Clone, Copy)]
+enum Stop {
+    // The next one could not be read.
+    Unread(Error),
+    Unwritten,
+}
+
+impl From<Error> for Stop {
+    fn from(error: Error) -> Stop {
+        Stop::Unread(error)
+    }
+}
+
+impl From<Unwritten> for Stop {
+    fn from(_: Unwritten) -> Stop {
+        Stop::Unwritten
+    }
+}
+
 fn main(rt: HostRuntime) {
-    let status = match options::read(&rt) {
-        Ok(Some(i)) => named(&rt, i),
-        Ok(None) => file(&rt, b"-"),
+    let program = Program::new(&rt, b"replay");
+    let status = match options::read(&program) {
+        Ok(Some(i)) => named(&program, i),
+        Ok(None) => file(&program, b"-"),
         Err(status) => status,
     };
-    status::end(&rt, b"replay", status);
+    program.end(status);
 }
 
 // Replays the file that argument i names.
-fn named(rt: &HostRuntime, i: usize) -> Status {
+fn named(program: &Program, i: usize) -> Status {
     let mut text = io::buffer();
-    match arguments::get(rt, i, &mut text) {
-        Some(name) => file(rt, name),
+    match arguments::get(program.rt, i, &mut text) {
+        Some(name) => file(program, name),
         None => {
-            messages::say_alone(rt, b"replay", b"the file's name is too long");
+            program.say_alone(b"the file's name is too long");
             Status::Failed
         }
     }
 }
 
 // Replays the file of a name.
-fn file(rt: &HostRuntime, name: &[u8]) -> Status {
-    let Some(source) = files::open(rt, b"replay", name) else {
+fn file(program: &Program, name: &[u8]) -> Status {
+    let Some(source) = program.open(name) else {
         return Status::Failed;
     };
-    match replay(rt, lines::of(source)) {
-        Ok(written) => Status::from(written),
-        Err(error) => {
-            messages::fail(rt, b"replay", name, error);
+    match replay(program, lines::of(source)) {
+        Ok(()) => Status::Done,
+        Err(Stop::Unwritten) => Status::Failed,
+        Err(Stop::Unread(error)) => {
+            program.fail(name, error);
             Status::Failed
         }
     }
 }
 
-// Replays the lines. The answer is whether all that they print could be written.
+// Replays the lines.
 // A proved loop has to end, and nothing says that the input does, so the lines are counted up to a number that no run comes to.
-fn replay(rt: &HostRuntime, mut lines: Lines) -> Result<bool, Error> {
+fn replay(program: &Program, mut lines: Lines) -> Result<(), Stop> {
     let mut line = room();
     let mut given = Buffer::new();
     let mut outputs = Buffer::new();
     let mut s = start();
     for k in 1..u64::MAX {
         let Some(n) = next(&mut lines, &mut line)? else {
-            return Ok(true);
+            return Ok(());
         };
-        if !answer(rt, k, n, &mut line, &mut s, &mut given, &mut outputs) {
-            return Ok(false);
-        }
+        answer(program, k, n, &mut line, &mut s, &mut given, &mut outputs)?;
     }
-    Ok(true)
+    Ok(())
 }
 
 // Reads a line into the front of its room, as `Lines` does.
@@ -124,28 +145,28 @@ fn start() -> State {
     }
 }
 
-// Answers line k, of n bytes, and prints the answer; nothing of an empty line, and of one that begins with #. Answers whether that went well.
+// Answers line k, of n bytes, and prints the answer; nothing of an empty line, and of one that begins with #.
 fn answer(
-    rt: &HostRuntime,
+    program: &Program,
     k: u64,
     n: usize,
     line: &mut [u8; ROOM],
     s: &mut State,
     given: &mut Buffer<BYTES>,
     outputs: &mut Buffer<BYTES>,
-) -> bool {
+) -> Result<(), Unwritten> {
     if LINE < n {
-        return reply::print_fault(rt, k, line, b"too long");
+        return reply::print_fault(program, k, line, b"too long");
     }
     let text = &line[..n];
     if matches!(text.first(), None | Some(b'#')) {
-        return true;
+        return Ok(());
     }
     match calls::answer(text, s, given, outputs) {
-        Some(reply) => reply::print(rt, script::until(text, b' '), line, reply, s, outputs),
+        Some(reply) => reply::print(program, script::until(text, b' '), line, reply, s, outputs),
         None => {
-            s.faults = calls::explain(rt, s.faults, k, text);
-            reply::print_fault(rt, k, line, b"not a call")
+            s.faults = calls::explain(program.rt, s.faults, k, text);
+            reply::print_fault(program, k, line, b"not a call")
         }
     }
 }

@@ -1,7 +1,7 @@
 // What is asked for: a script's file, help or the version.
-use program::arguments;
 use program::arguments::{Argument, Named};
 use program::status::Status;
+use program::{Program, arguments};
 use std::convert::Infallible;
 
 // The options, of which none takes a value.
@@ -22,15 +22,15 @@ impl Named for Flag {
 }
 
 // The argument that names the script's file, if one does; or the status to end with, since an argument is wrong, or help or the version is asked for.
-pub fn read(rt: &HostRuntime) -> Result<Option<usize>, Status> {
+pub fn read(program: &Program) -> Result<Option<usize>, Status> {
     let mut file = None;
-    for argument in arguments::all::<Flag, Infallible>(rt) {
+    for argument in arguments::all::<Flag, Infallible>(program.rt) {
         match argument {
             Argument::Flag(Flag::Help) => return Err(Status::Help),
             Argument::Flag(Flag::Version) => return Err(Status::Version),
-            Argument::File(i) => file = Some(only(rt, file, i)?),
+            Argument::File(i) => file = Some(only(program, file, i)?),
             Argument::Wrong(i, why) => {
-                arguments::say_wrong(rt, b"replay", i, why);
+                program.say_wrong(i, why);
                 return Err(Status::Misused);
             }
             Argument::Valued(..) | Argument::Value | Argument::End => {}
@@ -40,15 +40,10 @@ pub fn read(rt: &HostRuntime) -> Result<Option<usize>, Status> {
 }
 
 // Argument i, which names the script's file, if none before it does.
-fn only(rt: &HostRuntime, before: Option<usize>, i: usize) -> Result<usize, Status> {
+fn only(program: &Program, before: Option<usize>, i: usize) -> Result<usize, Status> {
     if before.is_none() {
         return Ok(i);
     }
-    arguments::say(
-        rt,
-        b"replay",
-        i,
-        b"one script is replayed, and this is a second",
-    );
+    program.say_argument(i, b"one script is replayed, and this is a second");
     Err(Status::Misused)
 }

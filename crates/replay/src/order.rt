@@ -1,7 +1,7 @@
 // The lines whose call returns the record of an order, but for those with the roll.
 use crate::State;
+use crate::line_words::Words;
 use crate::reply::Reply;
-use crate::words::Words;
 use answers::Refusal;
 use faults::Wanted;
 use orders::{Record, Step};

@@ -1,7 +1,7 @@
 // The lines that show and set what is kept: the record, and the engine.
 use crate::State;
+use crate::line_words::Words;
 use crate::reply::Reply;
-use crate::words::Words;
 use faults::Wanted;
 use limits::LONGEST_BLOCK;
 use orders::{Record, Split};

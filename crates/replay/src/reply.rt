@@ -9,7 +9,8 @@ use crate::{BYTES, LINE, ROOM, State};
 use answers::Refusal;
 use limits::LONGEST_BLOCK;
 use orders::Record;
-use program::output;
+use program::Program;
+use program::output::Unwritten;
 use receipts::{Kinds, TallyRefusal};
 
 // What is printed behind the name of a line.
@@ -31,38 +32,43 @@ pub enum Reply {
     Record,
 }
 
-// Prints what a call answered behind the name of its line, which stands at the front of the buffer and has so many bytes. Answers whether that went well.
+// Prints what a call answered behind the name of its line, which stands at the front of the buffer and has so many bytes.
 pub fn print(
-    rt: &HostRuntime,
+    program: &Program,
     name: usize,
     line: &mut [u8; ROOM],
     reply: Reply,
     s: &State,
     outputs: &Buffer<BYTES>,
-) -> bool
+) -> Result<(), Unwritten>
     requires { name ≤ LINE }
 {
     let end = put_reply(line, name, reply, s, outputs);
-    write(rt, line, end)
+    write(program, line, end)
 }
 
-// Prints why line k is no call. Answers whether that went well.
-pub fn print_fault(rt: &HostRuntime, k: u64, line: &mut [u8; ROOM], fault: &[u8]) -> bool
+// Prints why line k is no call.
+pub fn print_fault(
+    program: &Program,
+    k: u64,
+    line: &mut [u8; ROOM],
+    fault: &[u8],
+) -> Result<(), Unwritten>
     requires { length fault.now ≤ LINE }
 {
     let a = buffers::put(line, 0, b"line ");
     let b = decimal::put_number(line, a, k);
     let c = buffers::put(line, b, b": ");
     let end = buffers::put(line, c, fault);
-    write(rt, line, end)
+    write(program, line, end)
 }
 
-// Writes the first n bytes of line and a newline, in one call where the system takes them all. Answers whether that went well.
-fn write(rt: &HostRuntime, line: &mut [u8; ROOM], n: usize) -> bool
+// Writes the first n bytes of line and a newline, in one call where the system takes them all.
+fn write(program: &Program, line: &mut [u8; ROOM], n: usize) -> Result<(), Unwritten>
     requires { n < ROOM }
 {
     let end = buffers::put(line, n, b"\n");
-    output::write(rt, b"replay", &line[..end])
+    program.write(&line[..end])
 }
 
 // Puts what a call answered into the buffer from a place on, and answers the place after it, as the following do.

@@ -1,7 +1,7 @@
 // The lines on the roll.
 use crate::State;
+use crate::line_words::Words;
 use crate::reply::Reply;
-use crate::words::Words;
 use answers::Refusal;
 use faults::Wanted;
 use orders::{Record, Step};
