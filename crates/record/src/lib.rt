@@ -77,6 +77,8 @@ pub fn no_record() -> Record
 }
 
 // The tests that every call makes which changes an order, where out says whether it is out of turn.
+// That the record is sound then stays a clause of the functions called next. A struct that says so, made of the record once it is tested,
+// was tried: the record is copied into it, and an Append of 64 bytes took 1.1 to 1.2 times as long.
 #[tactic(auto, unfolding(orders::specs::Turn::turn_answer))]
 pub fn turn(r: Record, out: bool) -> Result<(), Refusal>
     ensures { answer_of result ≡ turn_answer r out }
