@@ -35,4 +35,3 @@ returns-in-64-eq384 c = ap₂ (λ (w n : ℕ). opening (size_of w) n) (sym c.in-
 pub returns-in-64-eq512 : goal.returns-in-64-eq512
 unfolding tabulate tabulate_from add turn rotate_left xor lsh256 lsh512 size_of alpha beta gamma tau sigma constant mix_lane add_message lanes mixed_lane mix permute step next_sub_message sub_messages sub_message steps forward_steps forward opening
 returns-in-64-eq512 c = ap₂ (λ (w n : ℕ). opening (size_of w) n) (sym c.in-64-eq512.is-0) (sym c.in-64-eq512.is-1)
-
