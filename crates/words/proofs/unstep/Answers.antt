@@ -3,4 +3,4 @@ use Rattle.words.proofs.unstep.Goals as goal
 
 pub returns : goal.returns
 unfolding unstep
-returns g c = rw (c.add_message.ensures, c.unmix.ensures, c.unpermute.ensures)
+returns g c = cc
