@@ -1,4 +1,4 @@
-// Many blocks of LSH-256 backward in groups of four words, with the contract of lsh256. The steps of a block begin with its last sub-message, so all of them have to be
+// Many blocks of LSH-256 backward in groups of four words, with the contract of crates/words. The steps of a block begin with its last sub-message, so all of them have to be
 // worked out before. While the steps of a block are taken back, the sub-messages of the block before it are worked out beside them, a row a step, in the other half of the
 // room. A single block is faster with crates/groups256, which has a shorter room.
 #![tactic(auto)]

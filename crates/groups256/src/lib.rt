@@ -1,4 +1,4 @@
-// LSH-256 in groups of four words: whole blocks of 128 bytes run forward and backward on a chain of 16 words of 32 bits, with the contracts of lsh256. The mix is that of
+// LSH-256 in groups of four words: whole blocks of 128 bytes run forward and backward on a chain of 16 words of 32 bits, with the contracts of crates/words. The mix is that of
 // mix256; all else works on a chain as it is in memory, four words at a time too, and is that of the first engine. Group l of a chain stands at places 4l to 4l + 3.
 #![tactic(auto)]
 
@@ -122,7 +122,8 @@ fn odd_steps(
     Stepped { chain: r, count }
 }
 
-// How far a turn comes is known when it is over, so that this loop counts itself. The steps on the chain t, an even one and an odd one a turn, and then M_steps, for the block whose words stand first in m.
+// The steps on the chain t, an even one and an odd one a turn, and then M_steps, for the block whose words stand first in m. How far a turn comes is known when it is over,
+// so that this loop counts itself.
 fn all_steps(sc: &[u32], pw: &[u64; 32], m: &mut [u32], steps: usize, t: [u32; 16]) -> [u32; 16]
     requires { (sc.now ≡ constants lsh256) × (pw.now ≡ powers (beta_gamma lsh256)) × (length m.old ≡ expanded_words lsh256 + 16) × (steps ≤ lsh256.steps) }
     ensures { result ≡ forward_steps lsh256 steps (take 32 m.old) t }

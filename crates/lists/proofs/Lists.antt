@@ -5,21 +5,16 @@ use mathlib.Core.Bool.{true, ◌&&◌}
 use mathlib.Core.List.{List, [], ◌∷◌, ◌++◌}
 use Prim.Native.Nat.{ℕ, zero, suc, ◌+◌, ◌-◌, ◌≤◌, ◌<◌}
 use native.Mathlib.Nat.{zero-add, le_refl}
-use native.Mathlib.Numerals.{add-one}
 use native.Mathlib.Omega.{arith}
 use lib.Dec.{eqb, ltb}
-use lib.ListN.{length, drop, get_or, replicate}
-use lib.Seq.{drop-cons, drop-append-add, take_all, paste}
+use lib.ListN.{length, drop, replicate}
+use lib.Seq.{drop-append-add, take_all, paste}
 use borrow.Author.Tests.{eqb-true, ltb-true, lt-ltb}
 use Rattle.lsh.specs.Tabulate.{at}
 use Rattle.lsh.proofs.Tests.{and-true}
 use Rattle.lists.proofs.Zeros.{drop-replicate}
 use Rattle.lists.specs.Lists.{all_below, all_zero}
 use Rattle.lists.specs.ZeroFilled.{zero_filled}
-
--- the test of the places from i on, by that of place i
-pub below_at : (m : ℕ) (s : List ℕ) (i : ℕ) → i < length s → all_below m (drop i s) ≡ (ltb (get_or s i 0) m && all_below m (drop (i + 1) s))
-below_at m s i h = rw (add-one, drop-cons s i 0 h)
 
 -- every place of a list whose test passes, and back
 pub at-below : (m : ℕ) (s : List ℕ) → 0 < m → all_below m s ≡ true → (l : ℕ) → at s l < m

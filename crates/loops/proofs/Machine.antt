@@ -11,7 +11,7 @@ use lib.Arith.{lt-one, digits_lt, digits_div}
 use lib.Bits.{bit_or, bit_xor, or_shifted, or_shifted_r, xor_shifted, xor_step, differ}
 use borrow.Author.Tests.{leb-true, leb-false}
 use Rattle.lsh.specs.Word.{add, subtract, turn, rotate_left, rotate_right, xor}
-use Rattle.lsh.proofs.Word.{sub-add, low_first, high-first, rotate_left-lt, right-left}
+use Rattle.lsh.proofs.Word.{low_first, high-first, rotate_left-lt, right-left}
 
 -- rotations: `x << k | x >> j`, and the other way round, in a word of j + k bits
 up : (j k x : ℕ) → (x * 2 ^ k) % 2 ^ (j + k) ≡ (x % 2 ^ j) * 2 ^ k
@@ -174,11 +174,6 @@ add_is w x y hx =
     mod-add-mod (y + (2 ^ w - (2 ^ w - 1 - x))) (2 ^ w) (2 ^ w - 1)
     ∙ ap (λ (n : ℕ). n % 2 ^ w) (omega arith)
     ∙ add-mod_right (x + y) (2 ^ w)
-
--- differences: the number to which y is added to give x
-pub sub_is : (w r x y : ℕ) → r < 2 ^ w → y < 2 ^ w → (r + y) % 2 ^ w ≡ x → r ≡ subtract w x y
-unfolding add
-sub_is w r x y hr hy e = sym (sub-add w r y hr hy) ∙ ap (λ (n : ℕ). subtract w n y) e
 
 -- exclusive or
 

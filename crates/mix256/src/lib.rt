@@ -141,7 +141,7 @@ fn turn_by_power(x: u32, p: u64) -> u32
     ((q % 4294967296) as u32).add((q >> 32) as u32)
 }
 
-// (By place, as the loops of crates/steps: see there.) Each word by the amount of its lane, 4l to 4l + 3, in step j: f of both, if the powers are those of f.
+// Each word by the amount of its lane, 4l to 4l + 3, in step j: f of both, if the powers are those of f. By place, as the loops of crates/steps: see there.
 fn turn_by_powers(pw: &[u64; 32], j: usize, l: usize, a: [u32; 4]) -> [u32; 4]
     requires { l < 2 }
     ensures { (f : ℕ → ℕ → ℕ) → ((i k : ℕ) → f i k < 32) → pw.now ≡ powers f → result ≡ wordwise (rotate_left 32) (group (f (j % 4)) l) a }

@@ -15,7 +15,7 @@ use Rattle.orders.proofs.Sound.{Sound, sounds, chain-is}
 use Rattle.orders.proofs.Held.{fill-lt}
 use Rattle.append.proofs.Appending.{room, first_block, filled}
 use Rattle.append.proofs.append_long.Goals as goal
-use Rattle.append.proofs.append_long.Goals.{After-held_length-at, After-with_part-first, Start}
+use Rattle.append.proofs.append_long.Goals.{After-held_length-at, Start}
 
 -- at the entry
 module _ (z : Start) where

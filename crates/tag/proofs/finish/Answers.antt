@@ -16,7 +16,7 @@ use Rattle.tags.specs.Finish.{finish_output}
 use Rattle.answers.proofs.Output.{refused-by, written-output}
 use Rattle.tags.proofs.Accepted.{finish-accepted}
 use Rattle.tag.proofs.finish.Goals as goal
-use Rattle.tag.proofs.finish.Goals.{After-digest_bytes-inner, In_ok-finish_answer, Start}
+use Rattle.tag.proofs.finish.Goals.{In_ok-finish_answer, Start}
 
 -- the entry of the call
 abbrev start : In_ok-finish_answer → Start
