@@ -123,6 +123,7 @@ pub fn backward(steps: usize, t: [u32; 16], s: &[u8]) -> Run<u32>
     let blocks = s.len() / u32::BLOCK;
     let mut c = t;
     let mut k = 0;
+    let mut count = 0;
     load_before(&mut m, k, s, blocks);
     expand(&mut m, k, steps);
     for left in (0..blocks).rev() {
@@ -131,9 +132,7 @@ pub fn backward(steps: usize, t: [u32; 16], s: &[u8]) -> Run<u32>
         let before = backward_block(&sc, &pw, &mut m, k, n, steps, c);
         c = before;
         k = n;
+        count += 1;
     }
-    Run {
-        chain: c,
-        count: blocks,
-    }
+    Run { chain: c, count }
 }

@@ -203,13 +203,15 @@ pub fn forward(steps: usize, t: [u32; 16], s: &[u8]) -> Run<u32>
     let mut m = long_room();
     let n = s.len() / u32::BLOCK;
     let mut c = t;
+    let mut count = 0;
     for k in 0..n {
         let a = k * u32::BLOCK;
         let e = a + u32::BLOCK;
         let next = forward_block(&sc, &pw, &mut m, steps, &s[a..e], c);
         c = next;
+        count += 1;
     }
-    Run { chain: c, count: n }
+    Run { chain: c, count }
 }
 
 // Runs the whole blocks of s backward, from the last, on the chain t.
@@ -222,11 +224,13 @@ pub fn backward(steps: usize, t: [u32; 16], s: &[u8]) -> Run<u32>
     let mut m = [0u32; EXPANDED];
     let n = s.len() / u32::BLOCK;
     let mut c = t;
+    let mut count = 0;
     for k in (0..n).rev() {
         let a = k * u32::BLOCK;
         let e = a + u32::BLOCK;
         let before = backward_block(&sc, &pw, &mut m, steps, &s[a..e], c);
         c = before;
+        count += 1;
     }
-    Run { chain: c, count: n }
+    Run { chain: c, count }
 }

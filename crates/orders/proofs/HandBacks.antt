@@ -3,13 +3,14 @@
 use mathlib.Core.Path.{◌≡◌, ap, ◌∙◌}
 use mathlib.Core.Bool.{true, false, not}
 use Prim.Native.Nat.{ℕ, ◌+◌, ◌-◌, ◌*◌, ◌/◌, ◌%◌, ◌≤◌, ◌<◌}
-use native.Mathlib.Nat.{add-mul, div-add-mod', mul-mod_left, mul-le-mul_right}
+use native.Mathlib.Nat.{add-mul, div-add-mod', mul-add-div_right, div-eq_of_lt, mod-lt, mul-mod_left, mul-le-mul_right}
 use native.Mathlib.Omega.{arith}
 use lib.Dec.{eqb, leb}
 use lib.ListN.{length}
 use borrow.Author.Tests.{eqb-true, leb-false, not-false}
 use Rattle.lsh.specs.WordSize.{size_of, block_bytes}
 use Rattle.lsh.specs.Block.{Chain}
+use Rattle.lsh.proofs.Figures.{block-some}
 use Rattle.lsh.proofs.Tests.{or-false}
 use Rattle.orders.specs.declared.Record.{Record}
 use Rattle.orders.specs.Record.{sound, is_begun}
@@ -43,6 +44,13 @@ module _ (b total k : ℕ) (le : k ≤ total / b) where
 module _ (r : Record) where
   abbrev B : ℕ
   B = block_bytes (size_of r.w)
+
+  -- their whole blocks
+  pub handed-blocks : handed r / B ≡ r.split.blocks
+  unfolding handed
+  handed-blocks =
+      let fill : r.total % B < B = mod-lt r.total (block-some r.w) in
+      omega (arith, mul-add-div_right (block-some r.w) r.split.blocks (r.total % B), div-eq_of_lt fill)
 
   module _ (ok : sound r ≡ true) (begun : is_begun r ≡ true) where
     -- no more than the order has

@@ -1,7 +1,7 @@
 // Rewind: the end of an order is taken back by running its blocks backward.
 #![tactic(auto)]
 
-ghost use Rattle.std.specs.Prelude.{◌≡◌, true, false, not, ◌&&◌, ◌<◌, ◌≤◌, eqb, length};
+ghost use Rattle.std.specs.Prelude.{◌≡◌, true, false, not, ◌&&◌, ◌/◌, ◌<◌, ◌≤◌, eqb, length};
 ghost use Rattle.lsh.specs.WordSize.{is_word_size, size_of, block_bytes};
 ghost use Rattle.lsh.specs.Opening.{opening};
 ghost use Rattle.limits.specs.Limits.{is_digest_length};
@@ -40,7 +40,7 @@ pub fn in_turn(engine: Engine, r: Record, keep: u64, h: &[u8]) -> Result<Step, R
         return Err(Refusal::HeldDiffer);
     }
     let run = runs::backward(engine, r.w, r.chain, h);
-    cut(engine, r, size, keep, run.chain, h)
+    cut(engine, r, run.count as u64, size, keep, run.chain, h)
 }
 
 #[tactic(auto, unfolding(orders::specs::Rewind::starts_off_block))]
@@ -57,19 +57,21 @@ pub fn keeps_too_much(w: u64, keep: u64, size: u64) -> bool
     size < keep || runs::block_bytes(w) as u64 <= keep
 }
 
-// Where size bytes were handed back, which lead back to the chain, and the first keep of the bytes s remain.
+// Where size bytes were handed back, which lead back to the chain over count blocks, and the first keep of the bytes s remain. The count is handed on from what ran the blocks.
 // OpeningDiffers is known only after the run, which is on copies, so a refusal has nothing to undo.
 // The definition has size, keep, chain and s in a record (`Cut`); here a struct of them would be made at each call and taken apart at once.
 #[tactic(auto, unfolding(orders::specs::Rewind::cut_call, orders::specs::Rewind::opening_differs, orders::specs::Rewind::rewound, orders::specs::Record::held_of))]
 pub fn cut(
     engine: Engine,
     r: Record,
+    count: u64,
     size: u64,
     keep: u64,
     chain: [u64; 16],
     s: &[u8],
 ) -> Result<Step, Refusal>
     requires { (sound r ≡ true)
+        × (count ≡ size / block_bytes (size_of r.w))
         × (size ≤ r.total)
         × (keep ≤ size)
         × (keep < block_bytes (size_of r.w))
@@ -82,7 +84,7 @@ pub fn cut(
     }
     let held = runs::zero_filled(&s[..keep as usize]);
     Ok(Step {
-        count: size / runs::block_bytes(r.w) as u64,
+        count,
         next: Record {
             total: left + keep,
             chain,

@@ -112,10 +112,18 @@ fn remaining(engine: Engine, r: Record, size: u64, keep: u64) -> Result<Step, Re
     let second = r.split.second;
     if r.split.blocks == 0 {
         let at = record::held_length(r.w, r.total);
-        return rewind::cut(engine, r, size, keep, second, &r.held[..at]);
+        return rewind::cut(engine, r, r.split.blocks, size, keep, second, &r.held[..at]);
     }
     let b = runs::block_bytes(r.w);
-    rewind::cut(engine, r, size, keep, second, &r.split.back[..b])
+    rewind::cut(
+        engine,
+        r,
+        r.split.blocks,
+        size,
+        keep,
+        second,
+        &r.split.back[..b],
+    )
 }
 
 // The record before the rewind began.

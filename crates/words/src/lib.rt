@@ -109,14 +109,14 @@ pub fn expand<W: Word>(m: &mut [W], steps: usize, last: [W; 16], before: [W; 16]
 }
 
 // (6)
-fn step<W: Word, M: Mix<W>>(sc: &[W], j: usize, m: [W; 16], t: [W; 16]) -> [W; 16]
+pub fn step<W: Word, M: Mix<W>>(sc: &[W], j: usize, m: [W; 16], t: [W; 16]) -> [W; 16]
     requires { (W.numbers sc.now ≡ constants W.size) × (j < W.size.steps) }
     ensures { W.numbers result ≡ step W.size j (W.numbers m) (W.numbers t) }
 {
     steps::permute(M::mix(sc, j, steps::add_message(t, m)))
 }
 
-fn unstep<W: Word, M: Mix<W>>(sc: &[W], j: usize, m: [W; 16], t: [W; 16]) -> [W; 16]
+pub fn unstep<W: Word, M: Mix<W>>(sc: &[W], j: usize, m: [W; 16], t: [W; 16]) -> [W; 16]
     requires { (W.numbers sc.now ≡ constants W.size) × (j < W.size.steps) }
     ensures { W.numbers result ≡ unstep W.size j (W.numbers m) (W.numbers t) }
 {
@@ -265,13 +265,15 @@ pub fn forward<W: Word, M: Mix<W>>(
     let block = W::BLOCK;
     let n = s.len() / block;
     let mut c = t;
+    let mut count = 0;
     for k in 0..n {
         let a = k * block;
         let e = a + block;
         let next = forward_block::<W, M>(sc, m, steps, &s[a..e], c);
         c = next;
+        count += 1;
     }
-    Run { chain: c, count: n }
+    Run { chain: c, count }
 }
 
 // Runs the whole blocks of s backward, from the last, on the chain t.
@@ -289,13 +291,15 @@ pub fn backward<W: Word, M: Mix<W>>(
     let block = W::BLOCK;
     let n = s.len() / block;
     let mut c = t;
+    let mut count = 0;
     for k in (0..n).rev() {
         let a = k * block;
         let e = a + block;
         let before = backward_block::<W, M>(sc, m, steps, &s[a..e], c);
         c = before;
+        count += 1;
     }
-    Run { chain: c, count: n }
+    Run { chain: c, count }
 }
 
 // The words of a chain's bytes.

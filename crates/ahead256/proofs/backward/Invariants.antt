@@ -11,7 +11,7 @@ use Rattle.ahead256.proofs.backward.Given as goal
 
 -- the blocks that are run, and the last one that is not, whose sub-messages stand from row k on
 abbrev pub invariant-loop-left : goal.invariant-loop-left
-invariant-loop-left l = RunBackward lsh256 l.steps (length l.s / block_bytes lsh256) l.s l.initial.c l.c (length l.s / block_bytes lsh256 - l.left) l.left
+invariant-loop-left l = RunBackward lsh256 l.steps (length l.s / block_bytes lsh256) l.s l.initial.c l.c l.count l.left
     × (0 < l.left → ExpandedFrom lsh256 (words_of lsh256 32 (part lsh256 l.s (l.left - 1))) l.m l.k l.steps)
     × ((l.k ≡ 0) ⊎ (l.k ≡ 28))
     × (l.k ≤ 28)

@@ -1,5 +1,5 @@
 use mathlib.Core.Path.{◌≡◌}
-use Prim.Native.Nat.{◌-◌, ◌/◌}
+use Prim.Native.Nat.{◌/◌}
 use lib.ListN.{length}
 use Rattle.lsh.specs.WordSize.{lsh256, block_bytes}
 use Rattle.loops.specs.Rows.{expanded_words}
@@ -7,4 +7,4 @@ use Rattle.loops.proofs.Runs.{RunBackward}
 use Rattle.groups256.proofs.backward.Given as goal
 
 abbrev pub invariant-loop-k : goal.invariant-loop-k
-invariant-loop-k l = let n = length l.s / block_bytes lsh256 in RunBackward lsh256 l.steps n l.s l.initial.c l.c (n - l.k) l.k × (length l.m ≡ expanded_words lsh256)
+invariant-loop-k l = RunBackward lsh256 l.steps (length l.s / block_bytes lsh256) l.s l.initial.c l.c l.count l.k × (length l.m ≡ expanded_words lsh256)

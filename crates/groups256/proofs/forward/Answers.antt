@@ -1,4 +1,5 @@
-use mathlib.Core.Path.{refl, ◌∙◌}
+use mathlib.Core.Path.{refl, ap, ◌∙◌}
+use Prim.Native.Nat.{ℕ, ◌+◌}
 use native.Mathlib.Omega.{arith}
 use borrow.Author.Rules.{rules}
 use Rattle.lsh.specs.WordSize.{lsh256, block_bytes}
@@ -8,7 +9,7 @@ use Rattle.groups256.proofs.forward.Goals as goal
 
 pub loop-k-init : goal.loop-k-init
 unfolding lsh256 block_bytes expanded_words
-loop-k-init c = (run-forward-none lsh256 _ _ _ _, search rules)
+loop-k-init c = (run-forward-none lsh256 _ _ _ _, search rules, refl)
 
 pub forward_block-next-requires : goal.forward_block-next-requires
 unfolding lsh256 block_bytes expanded_words
@@ -16,8 +17,8 @@ forward_block-next-requires c = (c.step_constants-sc.ensures, c.powers-pw.ensure
 
 pub loop-k-preserved : goal.loop-k-preserved
 unfolding lsh256 block_bytes expanded_words
-loop-k-preserved c = (run-forward-more _ c.loop-k.invariant.0 c.loop-k-test.true c.forward_block-next.ensures, c.forward_block-next.auto.m ∙ c.loop-k.invariant.1)
+loop-k-preserved c = (run-forward-more _ c.loop-k.invariant.0 c.loop-k-test.true c.forward_block-next.ensures, c.forward_block-next.auto.m ∙ c.loop-k.invariant.1, ap (λ (n : ℕ). n + 1) c.loop-k.invariant.2)
 
 pub returns : goal.returns
 unfolding lsh256 block_bytes expanded_words
-returns c = let all = run-forward-all c.loop-k.invariant.0 c.loop-k-test.false in (all.0, refl)
+returns c = let all = run-forward-all c.loop-k.invariant.0 c.loop-k-test.false in (all.0, c.loop-k.invariant.2 ∙ all.1)

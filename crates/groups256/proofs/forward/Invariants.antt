@@ -7,4 +7,4 @@ use Rattle.loops.proofs.Runs.{RunForward}
 use Rattle.groups256.proofs.forward.Given as goal
 
 abbrev pub invariant-loop-k : goal.invariant-loop-k
-invariant-loop-k l = RunForward lsh256 l.steps (length l.s / block_bytes lsh256) l.s l.initial.c l.c l.k × (length l.m ≡ expanded_words lsh256 + 16)
+invariant-loop-k l = RunForward lsh256 l.steps (length l.s / block_bytes lsh256) l.s l.initial.c l.c l.k × (length l.m ≡ expanded_words lsh256 + 16) × (l.count ≡ l.k)

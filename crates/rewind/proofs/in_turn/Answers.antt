@@ -27,4 +27,4 @@ backward-run-requires c = let z = (goal.at.backward-run-requires c).Start in
 
 pub cut-requires : goal.cut-requires
 cut-requires c = let k = few (goal.at.cut-requires c).Else-keeps_too_much in
-    ((goal.at.cut-requires c).Start.requires, (on (goal.at.cut-requires c).Else-starts_off_block).fits, k.0, k.1, k.0)
+    ((goal.at.cut-requires c).Start.requires, c.backward-run.ensures.1, (on (goal.at.cut-requires c).Else-starts_off_block).fits, k.0, k.1, k.0)

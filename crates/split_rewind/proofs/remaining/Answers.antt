@@ -1,6 +1,6 @@
-use mathlib.Core.Path.{◌≡◌, ap, ◌∙◌}
+use mathlib.Core.Path.{◌≡◌, sym, ap, ◌∙◌}
 use mathlib.Core.Bool.{true}
-use Prim.Native.Nat.{ℕ, ◌+◌, ◌*◌, ◌≤◌, ◌<◌}
+use Prim.Native.Nat.{ℕ, ◌+◌, ◌*◌, ◌/◌, ◌≤◌, ◌<◌}
 use native.Mathlib.Omega.{arith}
 use lib.ListN.{length}
 use lib.Seq.{length-take-le}
@@ -13,7 +13,7 @@ use Rattle.orders.specs.Record.{held_length, held_bytes, sound}
 use Rattle.orders.proofs.Held.{fill-most, held-length}
 use Rattle.orders.proofs.Lengths.{keeps-few}
 use Rattle.orders.specs.End.{handed}
-use Rattle.orders.proofs.HandBacks.{handed-most}
+use Rattle.orders.proofs.HandBacks.{handed-blocks, handed-most}
 use Rattle.split_rewind.proofs.remaining.Goals as goal
 use Rattle.split_rewind.proofs.remaining.Goals.{Start}
 
@@ -31,8 +31,12 @@ module _ (z : Start) where
   few = keeps-few (block_bytes (size_of R.w)) z.args.keep z.args.size z.requires.3
 
   -- what the last call asks for, but for the bytes
-  ready : (sound R ≡ true) × (z.args.size ≤ R.total)
-  ready = (z.requires.0, omega (arith, z.requires.2, handed-most R z.requires.0 z.requires.1))
+  ready : (sound R ≡ true) × (R.split.blocks ≡ z.args.size / block_bytes (size_of R.w)) × (z.args.size ≤ R.total)
+  ready = (
+    z.requires.0,
+    sym (ap (λ (k : ℕ). k / block_bytes (size_of R.w)) z.requires.2 ∙ handed-blocks R),
+    omega (arith, z.requires.2, handed-most R z.requires.0 z.requires.1),
+  )
 
   -- with no block handed back the held bytes are all
   held_all : R.split.blocks ≡ 0 → z.args.keep ≤ length (held_bytes R)
@@ -45,7 +49,7 @@ shared_ref_as_front-cut c = omega (arith, c.held_length-at.ensures, fill-most c.
 pub cut-requires : goal.cut-requires
 unfolding held_bytes
 cut-requires c = let z = (goal.at.cut-requires c).Start in
-    ((ready z).0, (ready z).1, (few z).0, (few z).1, rw c.held_length-at.ensures (held_all z c.if-r-eq0.true))
+    ((ready z).0, (ready z).1, (ready z).2, (few z).0, (few z).1, rw c.held_length-at.ensures (held_all z c.if-r-eq0.true))
 
 pub shared_ref_as_front-cut-2 : goal.shared_ref_as_front-cut-2
 shared_ref_as_front-cut-2 c = omega (arith, c.block_bytes-b.ensures, block-most c.args.r.w)
@@ -55,6 +59,7 @@ cut-requires-2 c = let z = (goal.at.cut-requires-2 c).Start in
     let block_in : c.block_bytes-b.result ≤ length (R z).split.back = omega (arith, c.block_bytes-b.ensures, block-most (R z).w, back_long z) in (
       (ready z).0,
       (ready z).1,
+      (ready z).2,
       (few z).0,
       (few z).1,
       omega (arith, length-take-le _ (R z).split.back block_in, c.block_bytes-b.ensures, (few z).1),
