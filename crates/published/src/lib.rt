@@ -1,9 +1,10 @@
 // The opening chains of the published functions, which are stored.
 #![tactic(auto)]
 
-ghost use Rattle.std.specs.Prelude.{◌≡◌, IfSome};
+ghost use Rattle.std.specs.Prelude.{◌≡◌, true, false, MatchOption};
 ghost use Rattle.lsh.specs.WordSize.{size_of};
 ghost use Rattle.lsh.specs.Opening.{opening};
+ghost use Rattle.published.specs.Published.{is_published};
 
 const LSH_256_224: [u64; 16] = [
     0x068608d3, 0x62d8f7a7, 0xd76652ab, 0x4c600a43, 0xbdc40aa8, 0x1eca0b68, 0xda1a89be, 0x3147d354,
@@ -94,7 +95,7 @@ const LSH_512_512: [u64; 16] = [
 // The opening chain of the published function of a word size and a digest length, if there is one. Each is a constant of its own, since a constant is written out as a whole
 // where it is named.
 pub fn opening(w: u64, n: u64) -> Option<[u64; 16]>
-    ensures { IfSome result (λ t. t ≡ opening (size_of w) n) }
+    ensures { MatchOption result (is_published w n ≡ false) (λ t. (is_published w n ≡ true) × (t ≡ opening (size_of w) n)) }
 {
     match (w, n) {
         (32, 224) => Some(LSH_256_224),
