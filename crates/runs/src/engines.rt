@@ -1,6 +1,7 @@
 // The two engines at each word size, as the crates below have them.
 ghost use Rattle.std.specs.Prelude.{◌≡◌, ◌/◌, ◌≤◌, length};
 ghost use Rattle.lsh.specs.WordSize.{lsh256, lsh512, block_bytes};
+ghost use Rattle.lsh.specs.StepConstants.{constants};
 ghost use Rattle.lsh.specs.Block.{forwards_steps, backwards_steps};
 ghost use Rattle.lsh.specs.Padding.{blocks_of};
 
@@ -28,16 +29,24 @@ pub trait Engines: Word {
 }
 
 // Words of the step constants and of the sub-messages at each size. Rattle has no array whose length a type parameter gives, so a run by words is lent the two here.
-const CONSTANTS_32: usize = 8 * <u32 as Word>::STEPS;
+pub const CONSTANTS_32: usize = 8 * <u32 as Word>::STEPS;
 
-const EXPANDED_32: usize = 16 * (<u32 as Word>::STEPS + 1);
+pub const EXPANDED_32: usize = 16 * (<u32 as Word>::STEPS + 1);
 
-const CONSTANTS_64: usize = 8 * <u64 as Word>::STEPS;
+pub const CONSTANTS_64: usize = 8 * <u64 as Word>::STEPS;
 
-const EXPANDED_64: usize = 16 * (<u64 as Word>::STEPS + 1);
+pub const EXPANDED_64: usize = 16 * (<u64 as Word>::STEPS + 1);
 
-// From so many bytes on the groups at w = 32 have a run backward of their own, which is faster over two blocks and more. (A block call has one block, and still chooses: an
-// engine with a single caller would be written into it.)
+// The step constants at w = 64, as an array; crate groups256 has those of w = 32.
+pub fn step_constants() -> [u64; CONSTANTS_64]
+    ensures { result ≡ constants lsh512 }
+{
+    let mut sc = [0u64; CONSTANTS_64];
+    constants::write_constants(&mut sc, u64::FIRST_CONSTANTS);
+    sc
+}
+
+// From so many bytes on the groups at w = 32 have a run backward of their own, which is faster over two blocks and more. A block call has one block, and chooses here too.
 const MANY: usize = 2 * <u32 as Word>::BLOCK;
 
 impl Engines for u32 {

@@ -16,7 +16,7 @@ use limits::LONGEST_BLOCK;
 use word::Word;
 pub use words::Run;
 
-mod engines;
+pub mod engines;
 
 use crate::engines::Engines;
 

@@ -237,7 +237,7 @@ fn wide32(x: u8) -> u32
 }
 
 // Byte i of a word.
-fn byte32(x: u32, i: u32) -> u8
+pub fn byte32(x: u32, i: u32) -> u8
     requires { i < 4 }
     ensures { result ≡ byte_at x i }
 {
