@@ -4,6 +4,8 @@
 
 ghost use Rattle.std.specs.Prelude.{◌≡◌, length};
 ghost use Rattle.blocks.specs.BlockCall.{block_answer, forward_bytes, backward_bytes};
+ghost use Rattle.orders.specs.Record.{zeros};
+ghost use Rattle.orders.specs.Step.{outcome};
 ghost use Rattle.orders.specs.Open.{open_call};
 ghost use Rattle.orders.specs.Append.{append_call};
 ghost use Rattle.orders.specs.Rewind.{rewind_call};
@@ -25,7 +27,8 @@ ghost use Rattle.tags.specs.Start.{start_call};
 ghost use Rattle.tags.specs.Finish.{finish_output};
 ghost use Rattle.tags.specs.Check.{check_call};
 
-use orders::{Outcome, Record};
+use answers::Refusal;
+use orders::{Outcome, Record, Step};
 use receipts::{Counts, Sameness};
 use runs::Engine;
 
@@ -47,10 +50,7 @@ pub extern "C" fn lsh_block_backward(engine: u64, w: u64, chain: &mut [u8], bloc
 pub extern "C" fn lsh_open(engine: u64, w: u64, n: u64) -> Outcome
     ensures { result ≡ open_call w n }
 {
-    numbered::outcome(
-        record::no_record(),
-        record::open(Engine::from(engine), w, n),
-    )
+    begun(record::open(Engine::from(engine), w, n))
 }
 
 #[unsafe(no_mangle)]
@@ -185,10 +185,7 @@ pub extern "C" fn lsh_tag(
 pub extern "C" fn lsh_tag_start(engine: u64, w: u64, n: u64, key: &[u8]) -> Outcome
     ensures { result ≡ start_call w n key.now }
 {
-    numbered::outcome(
-        record::no_record(),
-        tag::start(Engine::from(engine), w, n, key),
-    )
+    begun(tag::start(Engine::from(engine), w, n, key))
 }
 
 #[unsafe(no_mangle)]
@@ -210,4 +207,14 @@ pub extern "C" fn lsh_tag_check(
     ensures { result ≡ check_call w n key.now message.now tag.now }
 {
     numbered::sameness(tag::check(Engine::from(engine), w, n, key, message, tag))
+}
+
+// Of a call that begins an order: where it is refused there is none yet. The record of zeros is made only then.
+fn begun(given: Result<Step, Refusal>) -> Outcome
+    ensures { result ≡ outcome zeros given }
+{
+    match given {
+        Ok(step) => numbered::outcome(step.next, Ok(step)),
+        Err(refusal) => numbered::outcome(record::no_record(), Err(refusal)),
+    }
 }

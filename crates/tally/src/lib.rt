@@ -93,14 +93,14 @@ fn is_blank(r: &[u8]) -> bool
 }
 
 // Whether the receipt at place i is the same as an earlier one. All bytes are compared only where the checksums agree. The loop is over places, which the
-// list of receipts and that of the checksums share.
+// list of receipts and that of the checksums share, from the last back: a reprint mostly stands near the receipt that it repeats.
 #[tactic(auto, unfolding(receipts::specs::Tally::most_receipts))]
 fn came_before(list: &[u8], sums: &[u64; MOST_RECEIPTS], i: usize) -> bool
     requires { (i < most_receipts) × (i < receipt_count list.now) × ((j : ℕ) → j ≤ i → IsReceipt (receipt_at list.now j)) × ((j : ℕ) → j ≤ i → at sums.now j ≡ checksum (receipt_at list.now j)) }
     ensures { result ≡ came_before (receipt_at list.now i) (receipts list.now i) }
 {
     let sum = sums[i];
-    for j in 0..i {
+    for j in (0..i).rev() {
         if sums[j] == sum && same::all_agree(receipt_at(list, i), receipt_at(list, j)) {
             return true;
         }
