@@ -4,10 +4,10 @@
 
 ghost use Rattle.std.specs.Prelude.{◌≡◌, true, length};
 ghost use Rattle.lsh.specs.WordSize.{size_of};
+ghost use Rattle.orders.specs.declared.Record.{Record};
 ghost use Rattle.orders.specs.Step.{outcome};
-ghost use Rattle.checkpoints.specs.Roll.{links, is_roll, checkpoints};
-ghost use Rattle.checkpoints.specs.Checkpoints.{unlinked};
-ghost use Rattle.checkpoints.specs.RewindRoll.{rewind_roll_call, rewound_roll};
+ghost use Rattle.checkpoints.specs.Roll.{links, is_roll};
+ghost use Rattle.checkpoints.specs.RewindRoll.{rewind_roll_call, rewound_roll, cut_roll};
 ghost use Rattle.checkpoints.specs.EndRoll.{end_roll_call, ended_roll};
 
 use answers::Refusal;
@@ -25,9 +25,9 @@ pub fn rewind_roll(
     ensures { (outcome r result ≡ rewind_roll_call r keep h.now roll.old) × (roll.new ≡ rewound_roll r keep h.now roll.old) }
 {
     let known = roll::turn(r, record::is_begun(r), roll)?;
-    let step = rewind::in_turn(engine, r, keep, h)?;
-    cut(r.w, roll, known.count, step.next.total);
-    Ok(step)
+    let rewound = rewind::in_turn(engine, r, keep, h);
+    cut(r.w, roll, known.count, &rewound);
+    rewound
 }
 
 // The record of what remains, where the first keep of the bytes handed back in steps are kept.
@@ -35,15 +35,19 @@ pub fn end_roll(engine: Engine, r: Record, keep: u64, roll: &mut [u8]) -> Result
     ensures { (outcome r result ≡ end_roll_call r keep roll.old) × (roll.new ≡ ended_roll r keep roll.old) }
 {
     let known = roll::turn(r, !record::is_begun(r), roll)?;
-    let step = split_rewind::in_turn(engine, r, keep)?;
-    cut(r.w, roll, known.count, step.next.total);
-    Ok(step)
+    let ended = split_rewind::in_turn(engine, r, keep);
+    cut(r.w, roll, known.count, &ended);
+    ended
 }
 
-// Takes the checkpoints past the new end, after total bytes, off the roll.
-fn cut(w: u64, roll: &mut [u8], count: usize, total: u64)
+// Takes the checkpoints past the new end off the roll, of which count are linked. A refused call leaves them all.
+fn cut(w: u64, roll: &mut [u8], count: usize, given: &Result<Step, Refusal>)
     requires { (is_roll (size_of w) roll.old ≡ true) × (count ≡ length (links (size_of w) roll.old)) }
-    ensures { roll.new ≡ unlinked (size_of w) (checkpoints w total) roll.old }
+    ensures { (r : Record) → roll.new ≡ cut_roll w (outcome r given.now) roll.old }
 {
-    roll::unlink(w, roll, count, roll::checkpoints(w, total) as usize);
+    let left = match given {
+        Ok(step) => roll::checkpoints(w, step.next.total) as usize,
+        Err(_) => count,
+    };
+    roll::unlink(w, roll, count, left);
 }

@@ -27,12 +27,13 @@ pub fn same(a: &[u8], b: &[u8]) -> Result<bool, Refusal>
     Ok(all_agree(a, b))
 }
 
-// Whether two well-formed receipts are the same: all their bytes agree.
+// Whether two well-formed receipts are the same: all their bytes agree. That these are RECEIPT is in their form, and tells the compiler how many it compares.
+#[tactic(auto, unfolding(receipts::specs::Receipt::receipt_bytes))]
 pub fn all_agree(a: &[u8], b: &[u8]) -> bool
     requires { IsReceipt a.now × IsReceipt b.now }
     ensures { result ≡ same_receipt a.now b.now }
 {
-    buffers::equal_bytes(a, b)
+    buffers::equal_bytes(&a[0..RECEIPT], &b[0..RECEIPT])
 }
 
 // Whether as many bytes as a receipt has are a receipt that could have been written.
