@@ -86,7 +86,7 @@ pub fn all<F: Named, V: Named>(rt: &HostRuntime) -> Arguments<'_, F, V> {
 }
 
 // How many arguments there are, the program's name counted.
-fn count(rt: &HostRuntime) -> usize {
+pub fn count(rt: &HostRuntime) -> usize {
     for i in 0..usize::MAX {
         if is_missing(rt, i) {
             return i;

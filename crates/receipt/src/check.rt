@@ -57,7 +57,7 @@ pub fn list(job: &Job, name: Name) -> Result<bool, Unwritten> {
 
 fn each(job: &Job, source: Source) -> Result<Found, Unwritten> {
     let mut lines = lines::of(source);
-    let mut room = [0u8; LINE];
+    let mut room = line::buffer();
     let mut found = Found::nothing();
     for _ in 0..u64::MAX {
         match lines.next(&mut room, LINE) {
@@ -142,7 +142,7 @@ fn entry_of(job: &Job, line: &[u8]) -> Result<Finding, Unwritten>
     let Some(listed) = Listed::read(job, entry.digits, &mut bytes) else {
         return Ok(Finding::NoLine);
     };
-    let mut room = [0u8; LINE];
+    let mut room = line::buffer();
     let Some(name) = entry.name(&mut room) else {
         return Ok(Finding::NoLine);
     };

@@ -20,7 +20,7 @@ pub struct Entry<'a> {
 
 // The parts of a line: a backslash if the name is escaped, digits, a space and the length if there is one, two spaces, and the name.
 pub fn parts(line: &[u8]) -> Option<Entry>
-    ensures { IfSome result (λ e. length e.text.now ≤ length line.now) }
+    ensures { IfSome result (λ e. (length e.digits.now ≤ length line.now) × (length e.text.now ≤ length line.now)) }
 {
     let (escaped, rest) = match line {
         [b'\\', rest @ ..] => (true, rest),
@@ -42,7 +42,7 @@ pub fn parts(line: &[u8]) -> Option<Entry>
 
 // The word at the front, and what follows it: nothing, or a space and more.
 fn cut_at_space(text: &[u8]) -> (&[u8], &[u8])
-    ensures { length result.1.now ≤ length text.now }
+    ensures { (length result.0.now ≤ length text.now) × (length result.1.now ≤ length text.now) }
 {
     text.split_at(script::until(text, b' '))
 }

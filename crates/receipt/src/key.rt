@@ -1,5 +1,6 @@
 // The key, read from its file.
-ghost use Rattle.std.specs.Prelude.{◌≤◌, length, IfOk};
+ghost use Rattle.std.specs.Prelude.{◌≡◌, ◌≤◌, length, IfOk};
+ghost use Rattle.receipt.specs.Sizes.{key_room};
 
 use program::arguments::Start;
 use program::files::Source;
@@ -17,6 +18,13 @@ pub struct Key<'a> {
     pub bytes: &'a [u8],
     // Whether it came from standard input.
     pub is_input: bool,
+    ghost in_room: { length bytes.now ≤ key_room },
+}
+
+pub fn buffer() -> [u8; ROOM]
+    ensures { key_room ≡ length result }
+{
+    [0; ROOM]
 }
 
 // Reads the key into the room from the file that an option names; nothing where that makes no key, which is said.

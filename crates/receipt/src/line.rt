@@ -1,8 +1,8 @@
 // The lines that are printed: what was made of a file, or what a check found of it, and its name.
-ghost use Rattle.std.specs.Prelude.{◌+◌, ◌<◌, ◌≤◌, length};
+ghost use Rattle.std.specs.Prelude.{◌≡◌, ◌+◌, ◌<◌, ◌≤◌, length};
 ghost use Rattle.receipts.specs.Receipt.{receipt_bytes};
 ghost use Rattle.decimal.specs.Number.{most_digits};
-ghost use Rattle.receipt.specs.Sizes.{verdict_bytes};
+ghost use Rattle.receipt.specs.Sizes.{line_bytes, verdict_bytes};
 
 use crate::name::Name;
 use decimal::DIGITS;
@@ -11,8 +11,7 @@ use program::names::NAME;
 use program::output::Unwritten;
 use program::{Program, names};
 
-// Room for the longest line: a backslash, the digits of a receipt, a space and the length, two spaces, a name each of whose bytes is escaped, and the newline;
-// `text::put_bytes` asks for one more.
+// Room for the longest line (line_bytes in specs/Sizes.antt).
 pub const LINE: usize = 1 + (2 * RECEIPT + 1) + (1 + DIGITS) + 2 + 2 * NAME + 1;
 
 // What a check finds of a file.
@@ -38,6 +37,13 @@ impl Verdict {
     }
 }
 
+#[tactic(auto, unfolding(crate::specs::Sizes::line_bytes, receipts::specs::Receipt::receipt_bytes))]
+pub fn buffer() -> [u8; LINE]
+    ensures { line_bytes ≡ length result }
+{
+    [0; LINE]
+}
+
 // Prints bytes of a receipt or of a tag, the length of a file in bits if it is asked for, and its name.
 pub fn print(
     program: &Program,
@@ -47,14 +53,14 @@ pub fn print(
 ) -> Result<(), Unwritten>
     requires { length shown.now ≤ receipt_bytes }
 {
-    let mut line = [0; LINE];
+    let mut line = buffer();
     let end = put(&mut line, shown, bits, name);
     print_ended(program, &mut line, end, name)
 }
 
 // Prints a name and what a check found of it.
 pub fn print_verdict(program: &Program, name: Name, verdict: Verdict) -> Result<(), Unwritten> {
-    let mut line = [0; LINE];
+    let mut line = buffer();
     let end = put_verdict(&mut line, name, verdict);
     print_ended(program, &mut line, end, name)
 }

@@ -38,7 +38,7 @@ fn run(program: &Program, asked: Asked) -> Status {
 
 // Reads the key from the file that an option names, and goes on if that went well.
 fn with_key(program: &Program, asked: Asked, file: Start) -> Status {
-    let mut room = [0; key::ROOM];
+    let mut room = key::buffer();
     match key::read(program, file, &mut room) {
         Some(key) => files::all(&Job::with_key(*program, asked, key.bytes, key.is_input)),
         None => Status::Failed,

@@ -12,6 +12,9 @@ mod records;
 mod reply;
 mod rolls;
 
+ghost use Rattle.std.specs.Prelude.{◌≡◌, length};
+ghost use Rattle.replay.specs.Sizes.{string_bytes, roll_bytes, room_bytes};
+
 use answers::Refusal;
 use buffer::Buffer;
 use orders::{Record, Step};
@@ -112,9 +115,9 @@ fn file(program: &Program, name: &[u8]) -> Status {
 // Replays the lines.
 // A proved loop has to end, and nothing says that the input does, so the lines are counted up to a number that no run comes to.
 fn replay(program: &Program, mut lines: Lines) -> Result<(), Stop> {
-    let mut line = room();
-    let mut given = Buffer::new();
-    let mut outputs = Buffer::new();
+    let mut line = line_buffer();
+    let mut given = bytes_buffer();
+    let mut outputs = bytes_buffer();
     let mut s = start();
     for k in 1..u64::MAX {
         let Some(n) = next(&mut lines, &mut line)? else {
@@ -131,12 +134,22 @@ fn next(lines: &mut Lines, line: &mut [u8; ROOM]) -> Result<Option<usize>, Error
 }
 
 // Room for a line. Its bytes are not counted out where it is made in a function of its own.
-fn room() -> [u8; ROOM] {
+fn line_buffer() -> [u8; ROOM]
+    ensures { room_bytes ≡ length result }
+{
     [0; ROOM]
 }
 
+fn bytes_buffer() -> Buffer<BYTES>
+    ensures { string_bytes ≡ length result.room }
+{
+    Buffer::new()
+}
+
 // The record is all zeros at first, as a refused Open gives it, and the engine is the first.
-fn start() -> State {
+fn start() -> State
+    ensures { roll_bytes ≡ length result.roll.room }
+{
     State {
         record: record::no_record(),
         engine: Engine::Words,
